@@ -1,0 +1,4 @@
+pub mod Lists
+pub mod Identifiers
+pub mod Frontiers
+pub mod MarkSets

@@ -1,0 +1,29 @@
+//! Identifiers of versions, sets of them, byte lists, and sets of numbers.
+//!
+//! Everything above stands on this crate. An identifier is 1 to 128 printable bytes, ordered byte by byte.
+//! A frontier is a set of identifiers, kept in rising order. Contracts see an identifier as a list of bytes,
+//! a frontier as a strictly rising list of identifiers, and marks as a list of flags.
+//!
+//! Calls that allocate take the allocator first and answer want of memory by name; all others take no memory.
+//! Nothing here knows what an identifier names.
+#![tactic(auto)]
+
+mod bytes;
+mod frontier;
+mod id;
+pub mod laws;
+mod marks;
+mod memory;
+mod unknown;
+mod word;
+
+pub use bytes::Bytes;
+pub use frontier::Frontier;
+pub use id::{Id, IdFault};
+pub use marks::Marks;
+pub use memory::Memory;
+pub use unknown::Unknown;
+pub use word::Word;
+
+#[cfg(test)]
+mod tests;

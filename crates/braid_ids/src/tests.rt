@@ -1,0 +1,86 @@
+use super::*;
+use std::alloc::Global;
+use std::process::Abort;
+use std::test::Fail;
+
+/// The frontier of these names.
+fn frontier_of(rt: &impl Abort, alloc: Global, names: &[&[u8]]) -> Result<Frontier, Fail> {
+    let mut ids = Vec::new(alloc);
+    for name in names {
+        ids.push(Id::read(alloc, name)?)?;
+    }
+    assert!(rt; ids.len() < 100);
+    Ok(Frontier::of(ids)?)
+}
+
+#[test]
+fn reads_identifiers_up_to_their_limit(rt: HostRuntime) -> Result<(), Fail> {
+    let alloc = rt.alloc();
+    let longest = vec![in alloc; b'a'; 128]?;
+    let id = Id::read(alloc, &longest)?;
+    assert!(rt; id.bytes() == longest.as_slice());
+    assert!(rt; id.copy(alloc)? == id);
+    let longer = vec![in alloc; b'a'; 129]?;
+    assert_eq!(rt;
+        Id::read(alloc, &longer).err(),
+        Some(IdFault::TooLong { len: 129 })
+    );
+    assert_eq!(rt; Id::read(alloc, b"").err(), Some(IdFault::Empty));
+    assert_eq!(rt;
+        Id::read(alloc, b"a\n").err(),
+        Some(IdFault::BadByte { at: 1, byte: 10 })
+    );
+    assert_eq!(rt;
+        Id::read(alloc, b"\x7f").err(),
+        Some(IdFault::BadByte { at: 0, byte: 0x7f })
+    );
+    Ok(())
+}
+
+#[test]
+fn spells_identifiers_as_strings(rt: HostRuntime) -> Result<(), Fail> {
+    let alloc = rt.alloc();
+    let plain = Id::read(alloc, b"a-1")?.spell(alloc)?;
+    assert!(rt; plain.get() == b"\"a-1\"".as_slice());
+    let quoted = Id::read(alloc, b"a\"\\1")?.spell(alloc)?;
+    assert!(rt; quoted.get() == b"\"a\\\"\\\\1\"".as_slice());
+    Ok(())
+}
+
+#[test]
+fn sorts_identifiers_and_drops_repeats(rt: HostRuntime) -> Result<(), Fail> {
+    let alloc = rt.alloc();
+    let frontier = frontier_of(&rt, alloc, &[b"b-1", b"a-2", b"b-1", b"a"])?;
+    assert_eq!(rt; frontier.len(), 3);
+    let copied = frontier.copy(alloc)?;
+    for (n, name) in [b"a".as_slice(), b"a-2", b"b-1"].iter().enumerate() {
+        let id = copied.get(n as u32).ok_or("too few")?;
+        assert!(rt; id.bytes() == *name);
+        assert!(rt; frontier.holds(id));
+    }
+    assert!(rt; copied.get(3).is_none());
+    assert!(rt; !frontier.holds(&Id::read(alloc, b"b")?));
+    Ok(())
+}
+
+#[test]
+fn marks_ranges_of_numbers(rt: HostRuntime) -> Result<(), Fail> {
+    let mut marks = Marks::of(rt.alloc(), 10)?;
+    assert_eq!(rt; marks.size(), 10);
+    assert!(rt; marks.add(2, 4).is_ok());
+    assert!(rt; marks.add(3, 10).is_ok());
+    for n in 0..12u32 {
+        assert_eq!(rt; marks.has(n), n >= 2 && n < 10);
+    }
+    Ok(())
+}
+
+#[test]
+fn byte_lists_grow_at_their_end(rt: HostRuntime) -> Result<(), Fail> {
+    let mut bytes = Bytes::of(rt.alloc(), b"ab")?;
+    bytes.push(b"c")?;
+    assert!(rt; bytes.get() == b"abc".as_slice());
+    let word = Word::of(rt.alloc(), b"check")?;
+    assert!(rt; word.get() == b"check".as_slice());
+    Ok(())
+}
