@@ -2,3 +2,4 @@ pub mod Lists
 pub mod Identifiers
 pub mod Frontiers
 pub mod MarkSets
+pub mod Agents

@@ -72,6 +72,14 @@ impl Id {
         }
     }
 
+    /// The identifier of bytes that are known to be one.
+    pub(crate) fn from_bytes(bytes: Vec<u8>) -> Id
+        requires { IsIdentifier bytes.items }
+        ensures value { result ≡ bytes.items }
+    {
+        Id { bytes }
+    }
+
     /// The bytes, lent as a slice. It takes no memory.
     pub fn bytes(&self) -> &[u8]
         ensures value { result.now ≡ self.now }

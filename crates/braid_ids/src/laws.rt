@@ -1,6 +1,7 @@
 //! Laws of the definitions, each the contract of a function that does nothing.
 
-ghost use Rattle.std.specs.Prelude.{◌≡◌, ◌++◌, ◌↔◌, List, ℕ, Contains};
+ghost use Rattle.std.specs.Prelude.{◌≡◌, ◌<◌, ◌^◌, ◌++◌, ◌↔◌, List, ℕ, Contains};
+ghost use Rattle.braid_ids.specs.Agents.{IsAgent, agent_name};
 ghost use Rattle.braid_ids.specs.Frontiers.{IsRising};
 ghost use Rattle.braid_ids.specs.Identifiers.{spelled_id};
 
@@ -12,4 +13,9 @@ pub fn one_order()
 /// No bytes begin with the spellings of two identifiers.
 pub fn one_spelling()
     ensures law { (x y front back : List ℕ) → spelled_id x ++ front ≡ spelled_id y ++ back → (x ≡ y) × (front ≡ back) }
+{}
+
+/// No two agents have a version's identifier in common, and no agent has one for two numbers.
+pub fn one_author()
+    ensures law { (a b : List ℕ) (j k : ℕ) → IsAgent a → IsAgent b → j < 2 ^ 64 → k < 2 ^ 64 → agent_name a j ≡ agent_name b k → (a ≡ b) × (j ≡ k) }
 {}

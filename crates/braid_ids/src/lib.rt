@@ -8,20 +8,24 @@
 //! Nothing here knows what an identifier names.
 #![tactic(auto)]
 
+mod agent;
 mod bytes;
 mod frontier;
 mod id;
 pub mod laws;
 mod marks;
 mod memory;
+mod readers;
 mod unknown;
 mod word;
 
+pub use agent::{Agent, AgentFault};
 pub use bytes::Bytes;
 pub use frontier::Frontier;
 pub use id::{Id, IdFault};
 pub use marks::Marks;
 pub use memory::Memory;
+pub use readers::{after, read_decimal, split_at_byte};
 pub use unknown::Unknown;
 pub use word::Word;
 

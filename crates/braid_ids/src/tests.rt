@@ -84,3 +84,63 @@ fn byte_lists_grow_at_their_end(rt: HostRuntime) -> Result<(), Fail> {
     assert!(rt; word.get() == b"check".as_slice());
     Ok(())
 }
+
+#[test]
+fn reads_agents_and_names_their_versions(rt: HostRuntime) -> Result<(), Fail> {
+    let alloc = rt.alloc();
+    let faults = [
+        (b"".as_slice(), AgentFault::Empty),
+        (
+            b"0123456789012345678901234567890ab",
+            AgentFault::TooLong { len: 33 },
+        ),
+        (b"ann-1", AgentFault::BadByte { at: 3, byte: 45 }),
+        (b"Ann", AgentFault::BadByte { at: 0, byte: 65 }),
+        (b"plain", AgentFault::Reserved),
+    ];
+    for (bytes, fault) in faults {
+        assert_eq!(rt; Agent::read(alloc, bytes).err(), Some(fault));
+    }
+    let agent = Agent::read(alloc, b"0123456789012345678901234567890a")?;
+    assert_eq!(rt; agent.bytes().len(), 32);
+    let agent = Agent::read(alloc, b"a")?.copy(alloc)?;
+    assert!(rt; agent.bytes() == b"a".as_slice());
+    assert!(rt; agent.name(alloc, 1)?.bytes() == b"a-1".as_slice());
+    let last = agent.name(alloc, u64::MAX)?;
+    assert!(rt; last.bytes() == b"a-18446744073709551615".as_slice());
+    assert_eq!(rt; agent.number(&last), Some(u64::MAX));
+    Ok(())
+}
+
+#[test]
+fn numbers_only_the_agents_own_versions(rt: HostRuntime) -> Result<(), Fail> {
+    let alloc = rt.alloc();
+    let agent = Agent::read(alloc, b"a")?;
+    let rows = [
+        (b"a-1".as_slice(), Some(1)),
+        (b"a-20", Some(20)),
+        (b"a-01", None),
+        (b"a-0", None),
+        (b"a-", None),
+        (b"a", None),
+        (b"b-1", None),
+        (b"aa-1", None),
+        (b"a-1x", None),
+        (b"a-18446744073709551616", None),
+    ];
+    for (bytes, number) in rows {
+        assert_eq!(rt; agent.number(&Id::read(alloc, bytes)?), number);
+    }
+    Ok(())
+}
+
+#[test]
+fn readers_take_bytes_apart(rt: HostRuntime) {
+    assert!(rt; after(b"ab", b"abc") == Some(b"c".as_slice()));
+    assert!(rt; after(b"b", b"abc").is_none());
+    assert!(rt; split_at_byte(b':', b"a:b:c") == Some((b"a".as_slice(), b"b:c".as_slice())));
+    assert!(rt; split_at_byte(b':', b"abc").is_none());
+    assert_eq!(rt; read_decimal(b"1048576"), Some(1_048_576));
+    assert_eq!(rt; read_decimal(b"00"), None);
+    assert_eq!(rt; read_decimal(b"+1"), None);
+}
