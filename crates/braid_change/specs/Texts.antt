@@ -1,0 +1,15 @@
+-- What it means that bytes spell a text in UTF-8.
+use Rattle.std.specs.Prelude.{◌≡◌, ℕ, List, true, encode_utf8_all}
+use Rattle.std.specs.Str.{all_scalars}
+use Rattle.braid_change.specs.declared.text.TextFault.{TextFault}
+use Rattle.braid_change.specs.declared.text.TextFault.TheVariants.{NotText, Memory}
+
+-- the bytes are the UTF-8 of these scalar values
+pub record IsTextOf (text bytes : List ℕ) : Type 0 where
+  pub scalar : all_scalars text ≡ true
+  pub spelled : encode_utf8_all text ≡ bytes
+
+-- no scalar values have these bytes as their UTF-8. Memory may come for any bytes
+abbrev pub IsTextFault : List ℕ → TextFault → Type 0
+IsTextFault bytes NotText = (text : List ℕ) → IsTextOf text bytes → ⊥
+IsTextFault bytes Memory = Unit {0}

@@ -1,0 +1,105 @@
+ghost use Rattle.std.specs.Prelude.{◌≡◌, true, [], ◌∷◌, ◌-◌, ◌^◌, min, length, ◌↔◌, IfOk, IfErr, IsTrue, encode_utf8_all};
+ghost use Rattle.std.specs.Str.{all_scalars};
+ghost use Rattle.braid_change.specs.Texts.{IsTextOf, IsTextFault};
+
+use braid_ids::Memory;
+use std::alloc::Global;
+use std::marker::Model;
+
+/// A text: a list of Unicode scalar values.
+#[derive(Debug, Drop)]
+pub struct Text {
+    chars: Vec<char>,
+}
+
+impl Model for Text {
+    ghost use Rattle.std.specs.Prelude.{◌≡◌, List, ℕ, true};
+    ghost use Rattle.std.specs.Str.{all_scalars};
+
+    ghost Value = { List ℕ };
+
+    ghost view = { λ text. text.chars.items };
+
+    ghost invariant = { λ text. all_scalars text.chars.items ≡ true };
+}
+
+/// Why bytes gave no text.
+#[derive(Clone, Copy, Debug, PartialEq, Eq)]
+pub enum TextFault {
+    /// The bytes are not UTF-8.
+    NotText,
+    /// There was no memory for the text.
+    Memory,
+}
+
+impl Text {
+    /// Reads the text that all of the bytes spell in UTF-8.
+    ///
+    /// Errors: `NotText` exactly where the bytes are not UTF-8, or `Memory`. Nothing is kept then.
+    pub fn read(alloc: Global, bytes: &[u8]) -> Result<Text, TextFault>
+        ensures ok { IfOk result (λ text. IsTextOf text bytes.now) }
+        ensures fault { IfErr result (λ fault. IsTextFault bytes.now fault) }
+    {
+        let Ok(text) = str::from_utf8(bytes) else {
+            return Err(TextFault::NotText);
+        };
+        match text.chars().collect(alloc) {
+            Ok(chars) => Ok(Text { chars }),
+            Err(_) => Err(TextFault::Memory),
+        }
+    }
+
+    /// The text of these characters. It takes no memory.
+    pub fn of(chars: Vec<char>) -> Text
+        ensures value { result ≡ chars.items }
+    {
+        for c in &chars {
+            is_scalar(*c);
+        }
+        Text { chars }
+    }
+
+    /// The characters, lent as a slice. It takes no memory.
+    pub fn chars(&self) -> &[char]
+        ensures value { result.now ≡ self.now }
+        ensures valid { all_scalars self.now ≡ true }
+    {
+        self.chars.as_slice()
+    }
+
+    /// Whether both have the same characters. It takes no memory.
+    pub fn same(&self, other: &Text) -> bool
+        ensures same { IsTrue result ↔ (self.now ≡ other.now) }
+    {
+        self.chars() == other.chars()
+    }
+
+    /// The same text once more.
+    ///
+    /// Errors: `Memory` where there was none for the copy.
+    pub fn copy(&self, alloc: Global) -> Result<Text, Memory>
+        ensures ok { IfOk result (λ text. text ≡ self.now) }
+    {
+        let chars = Vec::from_slice(alloc, self.chars.as_slice())?;
+        Ok(Text { chars })
+    }
+
+    /// The number of bytes of its UTF-8, or 18,446,744,073,709,551,615 where they are more. It takes no memory.
+    pub fn utf8_len(&self) -> u64
+        ensures len { result ≡ min (length (encode_utf8_all self.now)) (2 ^ 64 - 1) }
+        ensures valid { all_scalars self.now ≡ true }
+    {
+        let mut len: u64 = 0;
+        for c in self.chars() {
+            len = len.saturating_add(c.len_utf8() as u64);
+        }
+        len
+    }
+}
+
+/// Each `char` is a scalar value, which a proof learns of a parameter but not of an item of a list.
+fn is_scalar(c: char)
+    ensures scalar { all_scalars (c ∷ []) ≡ true }
+{
+    let _c = c;
+}

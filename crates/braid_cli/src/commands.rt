@@ -1,0 +1,20 @@
+ghost use Rattle.braid_cli.specs.Commands.{Runs, Completes};
+
+use crate::check::{check_run, refuse_words};
+use braid_ids::Word;
+use braid_io::{Sink, Source, Status};
+use std::alloc::Global;
+
+/// Carries out the command that the words are, and answers how it ended.
+///
+/// The command `check` reads a chain of updates from `source` and writes its text to `out`. Other words are written
+/// as `fault: Usage`, and the source is left alone.
+pub fn run<S: Source, O: Sink>(alloc: Global, words: &[Word], source: &mut S, out: &mut O) -> Status
+    ensures runs { Runs words.now result (S.intake source.old) (S.intake source.new) (O.outflow out.old) (O.outflow out.new) }
+    ensures completes { Completes words.now result (S.intake source.old) (S.intake source.new) (O.outflow out.old) (O.outflow out.new) }
+{
+    match words.first() {
+        Some(word) if word.get() == b"check".as_slice() => check_run(alloc, words, source, out),
+        _ => refuse_words(out),
+    }
+}

@@ -1,0 +1,114 @@
+ghost use Rattle.std.specs.Prelude.{◌<◌};
+
+use super::*;
+use braid_ids::{Bytes, Word};
+use braid_io::{MemSink, MemSource};
+use std::alloc::Global;
+use std::test::Fail;
+
+const ONE: &[u8] = b"Version: \"a-1\"\r\nParents:\r\nContent-Length: 2\r\n\r\nhi";
+
+const TWO: &[u8] =
+    b"Version: \"a-1\"\r\nParents:\r\nContent-Length: 2\r\n\r\nhi\r\n\r\nVersion: \"a-2\"\r\nParents: \"a-1\"\r\nContent-Length: 10\r\n\r\na\xc3\xa9\xe2\x82\xac\xf0\x9f\x98\x80\r\n\r\n";
+
+/// What a run on these words left.
+#[derive(Drop)]
+struct Outcome {
+    status: Status,
+    out: MemSink,
+    source: MemSource,
+}
+
+/// Runs the program on these words, over this input in pieces, with these calls of the source and the sink failing.
+fn run_words(
+    alloc: Global,
+    words: &[&[u8]],
+    input: &[u8],
+    piece: usize,
+    read_fails: &[u64],
+    write_fails: &[u64],
+) -> Result<Outcome, Fail>
+    requires { 0 < piece }
+{
+    let mut list = Vec::new(alloc);
+    for word in words {
+        list.push(Word::of(alloc, word)?)?;
+    }
+    let mut source = MemSource::new(
+        Bytes::of(alloc, input)?,
+        piece,
+        Vec::from_slice(alloc, read_fails)?,
+    );
+    let mut out = MemSink::new(alloc, 100, Vec::from_slice(alloc, write_fails)?)?;
+    let status = commands::run(alloc, &list, &mut source, &mut out);
+    Ok(Outcome {
+        status,
+        out,
+        source,
+    })
+}
+
+#[test]
+fn check_prints_the_last_body_or_why_there_is_none(rt: HostRuntime) -> Result<(), Fail> {
+    let alloc = rt.alloc();
+    let rows: [(&[u8], Status, &[u8]); 5] = [
+        (ONE, Status::Done, b"versions: 1\ntext:\nhi\n"),
+        (b"", Status::Done, b"versions: 0\ntext:\n\n"),
+        (
+            TWO,
+            Status::Done,
+            b"versions: 2\ntext:\na\xc3\xa9\xe2\x82\xac\xf0\x9f\x98\x80\n",
+        ),
+        (&ONE[..48], Status::Bad, b"fault: NotYet\n"),
+        (b"hi", Status::Bad, b"fault: NotYet\n"),
+    ];
+    for (input, status, text) in rows {
+        for piece in [1usize, 10, 4096] {
+            let found = run_words(alloc, &[b"check"], input, piece.max(1), &[], &[])?;
+            assert_eq!(rt; found.status, status);
+            assert_eq!(rt; found.out.written(), text);
+            assert_eq!(rt; found.source.left(), b"".as_slice());
+        }
+    }
+    Ok(())
+}
+
+#[test]
+fn a_failed_read_and_a_failed_write_are_told_by_the_status(rt: HostRuntime) -> Result<(), Fail> {
+    let alloc = rt.alloc();
+    let found = run_words(alloc, &[b"check"], ONE, 10, &[2], &[])?;
+    assert_eq!(rt; found.status, Status::Outside);
+    assert_eq!(rt; found.out.written(), b"fault: ReadFault\n".as_slice());
+    let found = run_words(alloc, &[b"check"], ONE, 10, &[], &[0])?;
+    assert_eq!(rt; found.status, Status::Outside);
+    assert_eq!(rt; found.out.written(), b"".as_slice());
+    let found = run_words(alloc, &[b"other"], ONE, 10, &[], &[0])?;
+    assert_eq!(rt; found.status, Status::Outside);
+    assert_eq!(rt; found.out.written(), b"".as_slice());
+    Ok(())
+}
+
+#[test]
+fn other_words_are_refused_and_nothing_is_read(rt: HostRuntime) -> Result<(), Fail> {
+    let alloc = rt.alloc();
+    let rows: [&[&[u8]]; 6] = [
+        &[],
+        &[b"Check"],
+        &[b"check", b"--help"],
+        &[b"check", b""],
+        &[b"--check"],
+        &[b"check\xff"],
+    ];
+    for words in rows {
+        let found = run_words(alloc, words, ONE, 10, &[], &[])?;
+        assert_eq!(rt; found.status, Status::Usage);
+        assert_eq!(rt; found.out.written(), b"fault: Usage\n".as_slice());
+        assert_eq!(rt; found.source.left(), ONE);
+    }
+    Ok(())
+}
+
+#[test]
+fn the_program_has_its_own_words(rt: HostRuntime) {
+    assert!(rt; read_words(&rt).is_ok());
+}

@@ -1,0 +1,5 @@
+pub mod Parents
+pub mod Heads
+pub mod ChainLemmas
+pub mod Runs
+pub mod OneReading

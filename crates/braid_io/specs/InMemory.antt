@@ -1,0 +1,65 @@
+-- The forms in memory, as their contracts see them, and exactly what one call of each does.
+use Rattle.std.specs.Prelude.{◌≡◌, ℕ, ◌+◌, ◌-◌, ◌^◌, ◌<◌, ◌⊎◌, min, List, [], ◌++◌, length, take, drop, Some}
+use Rattle.std.specs.List.{Contains}
+use Rattle.braid_io.specs.declared.source.Read.{Read}
+use Rattle.braid_io.specs.declared.source.Read.TheVariants.{Got, End, Failed}
+use Rattle.braid_io.specs.declared.sink.Wrote.{Wrote}
+use Rattle.braid_io.specs.declared.sink.Wrote.TheVariants.{Took, Failed as NotTaken}
+use Rattle.braid_io.specs.Outside.{Intake, Outflow}
+
+-- A source in memory: the bytes given and left, the most that one read gives, the numbers of the calls that fail,
+-- the number of the next call, and the count of faults.
+pub record MemIntake : Type 0 where
+  pub taken : List ℕ
+  pub left : List ℕ
+  pub piece : ℕ
+  pub fails : List ℕ
+  pub calls : ℕ
+  pub faults : ℕ
+
+-- What a source in memory tells: all of it.
+abbrev pub intake_of : MemIntake → Intake
+intake_of s = record { taken = Some s.taken; left = Some s.left; faults = s.faults }
+
+-- A sink in memory: the bytes taken, the room left in bytes, the numbers of the calls that fail, the number of the
+-- next call, and the count of faults.
+pub record MemOutflow : Type 0 where
+  pub written : List ℕ
+  pub room : ℕ
+  pub fails : List ℕ
+  pub calls : ℕ
+  pub faults : ℕ
+
+-- What a sink in memory tells: all of it.
+abbrev pub outflow_of : MemOutflow → Outflow
+outflow_of s = record { written = Some s.written; faults = s.faults }
+
+-- A count that rises by one, or stays at its type's end.
+abbrev pub next_count : ℕ → ℕ
+next_count n = min (n + 1) (2 ^ 64 - 1)
+
+-- A read gives the first n bytes of what is left: as many as the piece and the buffer allow.
+pub record Gives (n : ℕ) (buf : List ℕ) (old new : MemIntake) : Type 0 where
+  pub some : 0 < length old.left
+  pub count : n ≡ min (min old.piece (length old.left)) (length buf)
+  pub bytes : take n buf ≡ take n old.left
+  pub moved : new ≡ record old { taken = old.taken ++ take n old.left; left = drop n old.left; calls = next_count old.calls }
+
+-- One read of a source in memory. It fails exactly where its number is listed, and then only the counts change.
+-- Else it ends exactly where nothing is left, and gives the next piece where something is.
+abbrev pub MemReads : Read → List ℕ → MemIntake → MemIntake → Type 0
+MemReads Failed buf old new = Contains old.fails old.calls × (new ≡ record old { calls = next_count old.calls; faults = next_count old.faults })
+MemReads End buf old new = ¬ Contains old.fails old.calls × (old.left ≡ []) × (new ≡ record old { calls = next_count old.calls })
+MemReads (Got n) buf old new = ¬ Contains old.fails old.calls × Gives n buf old new
+
+-- A write takes the first n bytes of the piece: as many as the room allows.
+pub record Takes (n : ℕ) (piece : List ℕ) (old new : MemOutflow) : Type 0 where
+  pub some : 0 < old.room
+  pub count : n ≡ min (length piece) old.room
+  pub moved : new ≡ record old { written = old.written ++ take n piece; room = old.room - n; calls = next_count old.calls }
+
+-- One write to a sink in memory. It fails exactly where its number is listed or no room is left, and then only the
+-- counts change. Else it takes what it has room for.
+abbrev pub MemWrites : Wrote → List ℕ → MemOutflow → MemOutflow → Type 0
+MemWrites NotTaken piece old new = (Contains old.fails old.calls ⊎ (old.room ≡ 0)) × (new ≡ record old { calls = next_count old.calls; faults = next_count old.faults })
+MemWrites (Took n) piece old new = ¬ Contains old.fails old.calls × Takes n piece old new

@@ -1,0 +1,32 @@
+//! The outside: where bytes come from and where they go.
+//!
+//! Everything above reads through `Source` and writes through `Sink`, and nothing above names a file, a socket or
+//! a terminal. A source tells what it has given and what it has left, a sink what it has taken, where they can;
+//! each counts its faults, and a call answers `Failed` only where that count rose in the call.
+//!
+//! The forms in memory tell all of that, and fail at the calls that they are told to. The adapters over std's
+//! reader and writer are the trusted edge: they tell their count of faults and no contents.
+//!
+//! Not promised: that a read or a write ever comes, or that what an adapter took reaches anyone.
+#![tactic(auto)]
+
+mod calls;
+pub mod laws;
+mod mem_sink;
+mod mem_source;
+mod sink;
+mod source;
+mod status;
+mod std_sink;
+mod std_source;
+
+pub use mem_sink::MemSink;
+pub use mem_source::MemSource;
+pub use sink::{Sink, WriteEnd, Wrote, write_all};
+pub use source::{Read, Source};
+pub use status::Status;
+pub use std_sink::StdSink;
+pub use std_source::StdSource;
+
+#[cfg(test)]
+mod tests;
