@@ -7,7 +7,8 @@ use Rattle.braid_ids.specs.Identifiers.{id_cmp}
 abbrev pub IsRising : List (List ℕ) → Type 0
 IsRising ids = IsStrictlySortedBy id_cmp ids
 
--- a finite set of identifiers, written in rising order
+-- a finite set of lists of bytes, written in rising order; that each of a frontier's is an identifier is what its
+-- type says
 pub record IsFrontier (ids : List (List ℕ)) : Type 0 where
   pub rising : IsRising ids
   pub counted : length ids < 2 ^ 32

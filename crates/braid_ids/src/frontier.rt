@@ -1,6 +1,6 @@
 ghost use Rattle.std.specs.Prelude.{◌≡◌, ◌^◌, ◌<◌, ◌↔◌, List, ℕ, IfOk, IsTrue, Contains, length, vec_len, slice_get};
 ghost use Rattle.std.specs.Option.{option_copied};
-ghost use Rattle.braid_ids.specs.Frontiers.{IsRising};
+ghost use Rattle.braid_ids.specs.Frontiers.{IsRising, IsFrontier};
 ghost use Rattle.braid_ids.specs.declared.id.Id.{Id as Identifier};
 
 use crate::id::Id;
@@ -44,6 +44,7 @@ impl Frontier {
     /// The number of members. It takes no memory.
     pub fn len(&self) -> u32
         ensures len { result ≡ length self.now }
+        ensures valid { IsFrontier self.now }
     {
         self.ids.len() as u32
     }

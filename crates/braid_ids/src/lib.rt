@@ -4,7 +4,7 @@
 //! A frontier is a set of identifiers, kept in rising order. Contracts see an identifier as a list of bytes,
 //! a frontier as a strictly rising list of identifiers, and marks as a list of flags.
 //!
-//! Calls that allocate take the allocator first and answer want of memory by name; all others take no memory.
+//! Calls that may want memory answer `Memory` by name; all others take none.
 //! Nothing here knows what an identifier names.
 #![tactic(auto)]
 
