@@ -41,11 +41,11 @@ reports_chain End read Bad text old new s r us bytes l c q =
     let same : bytes ≡ read = all_read new.left old.left read bytes s.0.left l s.2 in
     elim r.0 [ inl e ↦ absurd (cc) | inr n ↦ absurd (n.1 us (rw same at c)) ]
 reports_chain Over read Bad text old new s r us bytes l c q = absurd (omega (arith, s.1, no_more new.left old.left read bytes s.0.left l, c.short))
-reports_chain Failed read Bad text old new s r us bytes l c q = absurd (q s.1)
+reports_chain Failed read Bad text old new s r us bytes l c q = absurd (q s.2)
 reports_chain stop read Usage text old new s r us bytes l c q = absurd r
 reports_chain End read Outside text old new s r us bytes l c q = absurd (cc)
 reports_chain Over read Outside text old new s r us bytes l c q = absurd (cc)
-reports_chain Failed read Outside text old new s r us bytes l c q = absurd (q s.1)
+reports_chain Failed read Outside text old new s r us bytes l c q = absurd (q s.2)
 reports_chain stop read Memory text old new s r us bytes l c q = absurd r
 reports_chain stop read Cut text old new s r us bytes l c q = absurd r
 

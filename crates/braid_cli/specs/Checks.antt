@@ -1,5 +1,5 @@
 -- What `check` prints, and how it ends, by the bytes that it read.
-use Rattle.std.specs.Prelude.{◌≡◌, ℕ, ◌-◌, ◌<◌, ◌≤◌, ◌⊎◌, List, ◌++◌, length, drop, flat_map, codes, decimal}
+use Rattle.std.specs.Prelude.{◌≡◌, ℕ, ◌+◌, ◌-◌, ◌<◌, ◌≤◌, ◌⊎◌, List, ◌++◌, length, drop, flat_map, codes, decimal}
 use Rattle.std.specs.Io.KnownBytes.{append_known, prepend_known, IsAtEnd}
 use Rattle.braid_io.specs.Outside.{Intake, Outflow, Moves, Rose, WritesAll, WritesPart}
 use Rattle.braid_io.specs.declared.status.Status.{Status}
@@ -25,21 +25,25 @@ abbrev pub read_fault_text : List ℕ
 read_fault_text = codes "fault: ReadFault\n"
 
 -- the source gave these bytes, whether or not it then failed
-pub record TakesBytes (bytes : List ℕ) (old new : Intake) : Type 0 where
+pub record GivesBytes (bytes : List ℕ) (old new : Intake) : Type 0 where
   pub taken : new.taken ≡ append_known old.taken bytes
   pub left : old.left ≡ prepend_known bytes new.left
+  pub never_falls : old.faults ≤ new.faults
 
--- the source gave some bytes
-pub record Takes (old new : Intake) : Type 0 where
+-- the source gave some bytes, of which one read brings at most 4,096 past what a chain text may have
+pub record GivesSome (old new : Intake) : Type 0 where
   pub bytes : List ℕ
-  pub takes : TakesBytes bytes old new
+  pub short : length bytes ≤ 16_777_216 + 4_096
+  pub gives : GivesBytes bytes old new
 
--- Reading stopped after these bytes: at the end of the source; or once more came than a chain text may have; or at a
--- read that failed, and the source's count of faults rose.
+-- Reading stopped after these bytes: at the end of the source; or once more came than a chain text may have, by the
+-- bytes of one read at most; or at a read that failed before that, and the source's count of faults rose.
 abbrev pub StopsAfter : Stop → List ℕ → Intake → Intake → Type 0
 StopsAfter End bytes old new = Moves bytes old new × (length bytes ≤ 16_777_216) × IsAtEnd new.left
-StopsAfter Over bytes old new = Moves bytes old new × (16_777_216 < length bytes)
-StopsAfter Failed bytes old new = TakesBytes bytes old new × Rose old.faults new.faults
+StopsAfter Over bytes old new =
+    Moves bytes old new × (16_777_216 < length bytes) × (length bytes ≤ 16_777_216 + 4_096)
+StopsAfter Failed bytes old new =
+    GivesBytes bytes old new × (length bytes ≤ 16_777_216) × Rose old.faults new.faults
 
 -- The status and the text that follow: the chain's text where the source ended and the bytes are a chain text; the
 -- line `fault: NotYet` where too many bytes came, or the source ended and the bytes are none; the line
@@ -63,7 +67,7 @@ pub record Checked (old new : Intake) (status : Status) (text : List ℕ) : Type
 -- The run's whole report was written under its own status; or a write failed, a front of the report was written, and
 -- the status is Outside. At Memory nothing was written, and what the source gave was taken.
 abbrev pub CheckRuns : Status → Intake → Intake → Outflow → Outflow → Type 0
-CheckRuns Memory old new before after = Takes old new × (after ≡ before)
+CheckRuns Memory old new before after = GivesSome old new × (after ≡ before)
 CheckRuns status old new before after =
     ((text : List ℕ) × Checked old new status text × WritesAll text before after)
     ⊎ ((status ≡ Outside) × ((own : Status) × (text : List ℕ) × Checked old new own text × WritesPart text before after))

@@ -1,6 +1,6 @@
 ghost use Rattle.std.specs.Prelude.{◌≡◌, ◌++◌, IfOk, IfErr, OnOk, string_bytes, encode_utf8_all};
 ghost use Rattle.braid_change.specs.Changes.{content};
-ghost use Rattle.braid_cli.specs.Checks.{StopsAfter, Takes, Reports, CheckRuns, chain_text};
+ghost use Rattle.braid_cli.specs.Checks.{StopsAfter, GivesSome, Reports, CheckRuns, chain_text};
 ghost use Rattle.braid_cli.specs.Commands.{Runs, Completes, Refused};
 
 use braid_change::{Change, Text, Update};
@@ -26,7 +26,8 @@ pub enum Stop {
 /// many versions it has and its last text, or one line that says what is wrong. Other words are written as
 /// `fault: Usage`.
 ///
-/// It reads to the end of the source, or until more than 16,777,216 bytes have come.
+/// It reads to the end of the source, or until more than 16,777,216 bytes have come: by one read of at most 4,096
+/// bytes.
 pub fn check_run<S: Source, O: Sink>(
     alloc: Global,
     words: &[Word],
@@ -35,6 +36,7 @@ pub fn check_run<S: Source, O: Sink>(
 ) -> Status
     ensures runs { Runs words.now result (S.intake source.old) (S.intake source.new) (O.outflow out.old) (O.outflow out.new) }
     ensures completes { Completes words.now result (S.intake source.old) (S.intake source.new) (O.outflow out.old) (O.outflow out.new) }
+    ensures kept { (S.beside_reads source.new ≡ S.beside_reads source.old) × (O.beside_writes out.new ≡ O.beside_writes out.old) }
 {
     match words {
         [word] if word.get() == b"check".as_slice() => check_chain(alloc, source, out),
@@ -44,7 +46,8 @@ pub fn check_run<S: Source, O: Sink>(
 
 /// Writes that the words are no command.
 pub fn refuse_words<O: Sink>(out: &mut O) -> Status
-    ensures { Refused result (O.outflow out.old) (O.outflow out.new) }
+    ensures refused { Refused result (O.outflow out.old) (O.outflow out.new) }
+    ensures kept { O.beside_writes out.new ≡ O.beside_writes out.old }
 {
     match write_all(b"fault: Usage\n", out) {
         Ok(()) => Status::Usage,
@@ -54,7 +57,8 @@ pub fn refuse_words<O: Sink>(out: &mut O) -> Status
 
 /// Reads a chain from the source, and writes its report.
 fn check_chain<S: Source, O: Sink>(alloc: Global, source: &mut S, out: &mut O) -> Status
-    ensures { CheckRuns result (S.intake source.old) (S.intake source.new) (O.outflow out.old) (O.outflow out.new) }
+    ensures runs { CheckRuns result (S.intake source.old) (S.intake source.new) (O.outflow out.old) (O.outflow out.new) }
+    ensures kept { (S.beside_reads source.new ≡ S.beside_reads source.old) × (O.beside_writes out.new ≡ O.beside_writes out.old) }
 {
     let Ok((bytes, stop)) = read_bytes(alloc, source) else {
         return Status::Memory;
@@ -71,7 +75,8 @@ fn check_chain<S: Source, O: Sink>(alloc: Global, source: &mut S, out: &mut O) -
 /// Reads to the end of the source, or until more bytes have come than a chain text may have.
 fn read_bytes<S: Source>(alloc: Global, source: &mut S) -> Result<(Vec<u8>, Stop), Memory>
     ensures ok { IfOk result (λ found. StopsAfter found.1 found.0.items (S.intake source.old) (S.intake source.new)) }
-    ensures err { IfErr result (λ _. Takes (S.intake source.old) (S.intake source.new)) }
+    ensures err { IfErr result (λ _. GivesSome (S.intake source.old) (S.intake source.new)) }
+    ensures kept { S.beside_reads source.new ≡ S.beside_reads source.old }
 {
     let mut bytes = Vec::new(alloc);
     let mut buf = [0u8; 4096];

@@ -1,3 +1,4 @@
+ghost use Rattle.std.specs.Prelude.{◌≡◌};
 ghost use Rattle.braid_cli.specs.Commands.{Runs, Completes};
 
 use crate::check::{check_run, refuse_words};
@@ -12,6 +13,7 @@ use std::alloc::Global;
 pub fn run<S: Source, O: Sink>(alloc: Global, words: &[Word], source: &mut S, out: &mut O) -> Status
     ensures runs { Runs words.now result (S.intake source.old) (S.intake source.new) (O.outflow out.old) (O.outflow out.new) }
     ensures completes { Completes words.now result (S.intake source.old) (S.intake source.new) (O.outflow out.old) (O.outflow out.new) }
+    ensures kept { (S.beside_reads source.new ≡ S.beside_reads source.old) × (O.beside_writes out.new ≡ O.beside_writes out.old) }
 {
     match words.first() {
         Some(word) if word.get() == b"check".as_slice() => check_run(alloc, words, source, out),

@@ -4,6 +4,7 @@ use super::*;
 use braid_ids::{Bytes, Word};
 use braid_io::{MemSink, MemSource};
 use std::alloc::Global;
+use std::io::ErrorKind;
 use std::test::Fail;
 
 const ONE: &[u8] = b"Version: \"a-1\"\r\nParents:\r\nContent-Length: 2\r\n\r\nhi";
@@ -82,9 +83,34 @@ fn a_failed_read_and_a_failed_write_are_told_by_the_status(rt: HostRuntime) -> R
     let found = run_words(alloc, &[b"check"], ONE, 10, &[], &[0])?;
     assert_eq!(rt; found.status, Status::Outside);
     assert_eq!(rt; found.out.written(), b"".as_slice());
+    let found = run_words(alloc, &[b"check"], ONE, 10, &[], &[1])?;
+    assert_eq!(rt; found.status, Status::Done);
     let found = run_words(alloc, &[b"other"], ONE, 10, &[], &[0])?;
     assert_eq!(rt; found.status, Status::Outside);
     assert_eq!(rt; found.out.written(), b"".as_slice());
+    Ok(())
+}
+
+#[test]
+fn a_sink_without_room_keeps_a_prefix_of_the_text(rt: HostRuntime) -> Result<(), Fail> {
+    let alloc = rt.alloc();
+    let mut source = MemSource::new(Bytes::of(alloc, ONE)?, 10, Vec::new(alloc));
+    let mut out = MemSink::new(alloc, 5, Vec::new(alloc))?;
+    let words = vec![in alloc; Word::of(alloc, b"check")?]?;
+    let status = commands::run(alloc, &words, &mut source, &mut out);
+    assert_eq!(rt; status, Status::Outside);
+    assert_eq!(rt; out.written(), b"versi".as_slice());
+    Ok(())
+}
+
+#[test]
+fn a_text_past_the_limit_is_not_read_to_its_end(rt: HostRuntime) -> Result<(), Fail> {
+    let alloc = rt.alloc();
+    let input = vec![in alloc; b'a'; 16_777_216 + 10_000]?;
+    let found = run_words(alloc, &[b"check"], &input, 4096, &[], &[])?;
+    assert_eq!(rt; found.status, Status::Bad);
+    assert_eq!(rt; found.out.written(), b"fault: NotYet\n".as_slice());
+    assert_eq!(rt; found.source.left().len(), 10_000 - 4096);
     Ok(())
 }
 
@@ -109,6 +135,13 @@ fn other_words_are_refused_and_nothing_is_read(rt: HostRuntime) -> Result<(), Fa
 }
 
 #[test]
-fn the_program_has_its_own_words(rt: HostRuntime) {
+fn words_are_read_or_their_fault_is_told(rt: HostRuntime) {
     assert!(rt; read_words(&rt).is_ok());
+    let rows = [
+        (ErrorKind::OutOfMemory, WordsFault::Memory),
+        (ErrorKind::InvalidData, WordsFault::NotText),
+    ];
+    for (kind, fault) in rows {
+        assert_eq!(rt; words::words_fault(kind), fault);
+    }
 }

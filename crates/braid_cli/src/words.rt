@@ -1,7 +1,10 @@
+ghost use Rattle.std.specs.Prelude.{◌≡◌, ◌↔◌, ◌∷◌, ◌++◌, [], OnOk, IfErr};
+
 use braid_ids::Word;
 use std::alloc::Global;
+use std::env;
+use std::io::ErrorKind;
 use std::rt::Env;
-use std::{env, io};
 
 /// Why the words of the command line were not read.
 #[derive(Clone, Copy, Debug, PartialEq, Eq)]
@@ -28,15 +31,20 @@ pub fn read_words<R: Env + AllocGlobal>(rt: &R) -> Result<Vec<Word>, WordsFault>
 }
 
 /// What an error of reading the arguments says of the words.
-fn words_fault(kind: io::ErrorKind) -> WordsFault {
+pub fn words_fault(kind: ErrorKind) -> WordsFault
+    ensures memory { result ≡ WordsFault.Memory ↔ (kind ≡ ErrorKind.OutOfMemory) }
+{
     match kind {
-        io::ErrorKind::OutOfMemory => WordsFault::Memory,
+        ErrorKind::OutOfMemory => WordsFault::Memory,
         _ => WordsFault::NotText,
     }
 }
 
 /// Puts a word at the end.
-fn push_word(alloc: Global, words: &mut Vec<Word>, bytes: &[u8]) -> Result<(), WordsFault> {
+fn push_word(alloc: Global, words: &mut Vec<Word>, bytes: &[u8]) -> Result<(), WordsFault>
+    ensures ok { OnOk result (words.new.items ≡ words.old.items ++ bytes.now ∷ []) }
+    ensures fault { IfErr result (λ fault. fault ≡ WordsFault.Memory) }
+{
     let Ok(word) = Word::of(alloc, bytes) else {
         return Err(WordsFault::Memory);
     };

@@ -3,3 +3,4 @@ pub mod Heads
 pub mod ChainLemmas
 pub mod Runs
 pub mod OneReading
+pub mod InWords

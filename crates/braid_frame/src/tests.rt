@@ -51,7 +51,7 @@ fn reads_a_chain_of_bodies_in_any_characters(rt: HostRuntime) -> Result<(), Fail
 #[test]
 fn near_misses_are_no_chain(rt: HostRuntime) -> Result<(), Fail> {
     let alloc = rt.alloc();
-    let misses: [&[u8]; 21] = [
+    let misses: [&[u8]; 23] = [
         b"\r\n",
         b"Version: \"a-1\"\nParents:\r\nContent-Length: 2\r\n\r\nhi",
         b"Version: \"a-1\"\r\nParents:\nContent-Length: 2\r\n\r\nhi",
@@ -73,6 +73,8 @@ fn near_misses_are_no_chain(rt: HostRuntime) -> Result<(), Fail> {
         b"Version: \"a-1\"\r\nParents:\r\nContent-Length: 3\r\n\r\n\xed\xa0\x80",
         b"Version: \"a-1\"\r\nParents:\r\nContent-Length: 1\r\n\r\na\r\n\r\nVersion: \"a-1\"\r\nParents: \"a-1\"\r\nContent-Length: 1\r\n\r\nb",
         b"Version: \"a-1\"\r\nParents:\r\nContent-Length: 1\r\n\r\na\r\n\r\nVersion: \"b-1\"\r\nParents:\r\nContent-Length: 1\r\n\r\nb",
+        b"Version: \"a-1\"\r\nParents:\r\nContent-Length: 1\r\n\r\na\r\n\r\nVersion: \"b-1\"\r\nParents: \"a-9\"\r\nContent-Length: 1\r\n\r\nb",
+        b"Version: \"a-1\"\r\nParents:\r\nContent-Length: 1\r\n\r\na\r\n\r\nVersion: \"b-1\"\r\nParents: \"a-1\", \"a-1\"\r\nContent-Length: 1\r\n\r\nb",
     ];
     for miss in misses {
         assert_eq!(rt; read_chain(alloc, miss).err(), Some(ChainFault::NotYet));

@@ -7,9 +7,9 @@ use Rattle.braid_cli.proofs.check.check_run.Goals as goal
 pub returns-in-len1-clause-runs : goal.returns-in-len1-clause-runs
 returns-in-len1-clause-runs g c =
     record {
-      check = λ e. c.check_chain.ensures;
+      check = λ e. c.check_chain.ensures.runs;
       others = λ n. absurd (n (one_word _ _ _ _ c.in-len1.len_at_least c.in-len1.len_below c.word-item.is c.get.ensures.value (c.if-eq.ensures ∙ ap (pointwise nat_eq c.get.result.now) c.as_slice.ensures)));
     }
 
 pub returns-in-len1-clause-completes : goal.returns-in-len1-clause-completes
-returns-in-len1-clause-completes g c us bytes e l chain q t = writes_chain _ _ _ _ _ c.check_chain.ensures us bytes l chain q t
+returns-in-len1-clause-completes g c us bytes e l chain q t = writes_chain _ _ _ _ _ c.check_chain.ensures.runs us bytes l chain q t
