@@ -1,3 +1,10 @@
 pub mod Lengths
 pub mod Shapes
 pub mod Alike
+pub mod Runs
+pub mod Past
+pub mod Cuts
+pub mod Pieces
+pub mod Written
+pub mod Read
+pub mod Departures

@@ -1,3 +1,7 @@
 pub mod Texts
 pub mod Changes
 pub mod Updates
+pub mod Splices
+pub mod Spellings
+pub mod Digests
+pub mod RangeForms

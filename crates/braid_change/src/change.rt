@@ -1,5 +1,5 @@
 ghost use Rattle.std.specs.Prelude.{◌≡◌, ◌-◌, ◌^◌, min, length, ◌↔◌, IfOk, IsTrue};
-ghost use Rattle.braid_change.specs.Changes.{patches_of, patches_content, content_len, HaveScalars, AreScalars};
+ghost use Rattle.braid_change.specs.Changes.{patches_of, patches_content, content_len, AreNumbered};
 
 use crate::patch::{ListPatch, Patch};
 use crate::text::Text;
@@ -30,7 +30,7 @@ impl Change {
     /// It takes no memory.
     pub fn utf8_len(&self) -> u64
         ensures len { result ≡ min (content_len self.now) (2 ^ 64 - 1) }
-        ensures valid { AreScalars self.now }
+        ensures valid { AreNumbered (patches_of self.now) }
     {
         match self {
             Change::Body(text) => text.utf8_len(),
@@ -65,11 +65,11 @@ impl Change {
 /// The number of UTF-8 bytes of the patches' texts together, or the greatest `u64` where they are more.
 fn patches_len(patches: &[Patch]) -> u64
     ensures len { result ≡ min (length (patches_content patches.now)) (2 ^ 64 - 1) }
-    ensures valid { HaveScalars patches.now }
+    ensures valid { AreNumbered patches.now }
 {
     let mut len: u64 = 0;
     for patch in patches {
-        len = len.saturating_add(patch.text.utf8_len());
+        len = len.saturating_add(patch.utf8_len());
     }
     len
 }

@@ -10,11 +10,25 @@
 #![tactic(auto)]
 
 mod change;
+mod digester;
+mod joins;
+pub mod laws;
 mod patch;
+mod range;
+mod spelling;
+mod splices;
 mod text;
 mod update;
 
 pub use change::Change;
+pub use digester::Digester;
+pub use joins::joined;
 pub use patch::{ListPatch, Patch};
+pub use range::{RangeFault, read_range};
+pub use spelling::canon;
+pub use splices::{SpliceFault, splice};
 pub use text::{Text, TextFault};
 pub use update::{BuildFault, Update};
+
+#[cfg(test)]
+mod tests;

@@ -1,4 +1,4 @@
-ghost use Rattle.std.specs.Prelude.{◌≡◌, ◌↔◌, IfOk, IsTrue};
+ghost use Rattle.std.specs.Prelude.{◌≡◌, ◌<◌, ◌↔◌, ◌-◌, ◌^◌, min, length, encode_utf8_all, IfOk, IsTrue};
 
 use crate::text::Text;
 use braid_ids::Memory;
@@ -16,6 +16,16 @@ pub struct Patch {
 }
 
 impl Patch {
+    /// The number of bytes of its text's UTF-8, or 18,446,744,073,709,551,615 where they are more. It takes no memory.
+    pub fn utf8_len(&self) -> u64
+        ensures len { result ≡ min (length (encode_utf8_all self.now.text)) (2 ^ 64 - 1) }
+        ensures valid { self.now.end < 2 ^ 32 }
+    {
+        // A proof learns that a number fits its type where it is read.
+        let _end = self.end;
+        self.text.utf8_len()
+    }
+
     /// Whether both replace the same range by the same text. It takes no memory.
     pub fn same(&self, other: &Patch) -> bool
         ensures same { IsTrue result ↔ (self.now ≡ other.now) }

@@ -59,6 +59,14 @@ impl Text {
         Text { chars }
     }
 
+    /// The text of these characters, where the proof knows that they are scalar values.
+    pub(crate) fn of_scalars(chars: Vec<char>) -> Text
+        requires scalar { all_scalars chars.items ≡ true }
+        ensures value { result ≡ chars.items }
+    {
+        Text { chars }
+    }
+
     /// The characters, lent as a slice. It takes no memory.
     pub fn chars(&self) -> &[char]
         ensures value { result.now ≡ self.now }

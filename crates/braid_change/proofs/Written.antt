@@ -1,0 +1,66 @@
+-- What is written item by item is what the whole list is spelled as.
+use Rattle.std.proofs.Common.{◌≡◌, ◌==◌, ℕ, suc, ◌+◌, ◌<◌, ◌≤◌, ◌^◌, List, [], ◌∷◌, ◌++◌, Some, None, false, cond, refl, ap, sym, ◌∙◌, arith, take, length, get_or, slice_get, append_assoc, flat_map, codes, encode_utf8, encode_utf8_all}
+use Rattle.std.proofs.lemmas.List.{take_more, append-nil, length-take-le}
+use Rattle.std.proofs.lemmas.List.Folds.{length-flat_map-take}
+use Rattle.std.proofs.lemmas.Grind.{flat_map-append}
+use Rattle.std.proofs.lemmas.Option.{slice_get_within, get_or_from_slice_get, slice_get-get_or, none-some}
+use Rattle.std.proofs.lemmas.Bool.Decides.{nat_tests}
+use Rattle.std.proofs.lemmas.Str.{encodes-append}
+use Rattle.braid_ids.specs.Identifiers.{spelled_id}
+use Rattle.braid_change.specs.Changes.{patches_content}
+use Rattle.braid_change.specs.Spellings.{parents_text, patch_text}
+use Rattle.braid_change.specs.declared.patch.Patch.{Patch}
+
+-- one more item at the end of what was taken
+taken_more : {X : Type 0} (xs : List X) (n : ℕ) (x : X) → n < length xs → x ≡ get_or xs n x → take (n + 1) xs ≡ take n xs ++ x ∷ []
+taken_more xs n x l e = take_more xs n x l ∙ ap (λ z. take n xs ++ z ∷ []) (sym e)
+
+pub encoded_more : (before old new items piece : List ℕ) (i c : ℕ) → i < length items → c ≡ get_or items i c → old ≡ before ++ encode_utf8_all (take i items) → piece ≡ encode_utf8 c → new ≡ old ++ piece → new ≡ before ++ encode_utf8_all (take (i + 1) items)
+encoded_more before old new items piece i c l e o p n =
+    let coded : encode_utf8_all (take (i + 1) items) ≡ encode_utf8_all (take i items) ++ encode_utf8 c = ap encode_utf8_all (taken_more items i c l e) ∙ encodes-append (take i items) (c ∷ []) ∙ ap (λ z. encode_utf8_all (take i items) ++ z) (append-nil (encode_utf8 c)) in
+    n ∙ ap (λ z. old ++ z) p ∙ ap (λ z. z ++ encode_utf8 c) o ∙ append_assoc before (encode_utf8_all (take i items)) (encode_utf8 c) ∙ ap (λ z. before ++ z) (sym coded)
+
+pub patches_more : (before old new : List ℕ) (patches : List Patch) (i : ℕ) (p : Patch) → i < length patches → p ≡ get_or patches i p → old ≡ before ++ flat_map patch_text (take i patches) → new ≡ old ++ patch_text p → new ≡ before ++ flat_map patch_text (take (i + 1) patches)
+patches_more before old new patches i p l e o n =
+    let more : flat_map patch_text (take (i + 1) patches) ≡ flat_map patch_text (take i patches) ++ patch_text p = ap (flat_map patch_text) (taken_more patches i p l e) ∙ flat_map-append patch_text (take i patches) (p ∷ []) ∙ ap (λ z. flat_map patch_text (take i patches) ++ z) (append-nil (patch_text p)) in
+    n ∙ ap (λ z. z ++ patch_text p) o ∙ append_assoc before (flat_map patch_text (take i patches)) (patch_text p) ∙ ap (λ z. before ++ z) (sym more)
+
+-- no text of a patch is longer than all together
+pub part_short : (patches : List Patch) (i : ℕ) (p : Patch) → i < length patches → p ≡ get_or patches i p → length (patches_content patches) < 2 ^ 64 → length (encode_utf8_all p.text) < 2 ^ 64
+part_short patches i p l e h =
+    let f : Patch → List ℕ = λ q. encode_utf8_all q.text in
+    let k = length-flat_map-take f patches i p l in
+    let s : length (f p) ≡ length (f (get_or patches i p)) = ap (λ q. length (f q)) e in
+    omega (arith, k, s, h)
+
+-- what follows one more parent
+next_parent : (ids : List (List ℕ)) (id : List ℕ) → parents_text (ids ++ id ∷ []) ≡ parents_text ids ++ (cond (length ids == 0) (codes " ") (codes ", ") ++ spelled_id id)
+next_parent [] id = ap (λ z. codes " " ++ z) (append-nil (spelled_id id))
+next_parent (x ∷ ids) id =
+    let g : List ℕ → List ℕ = λ next. codes ", " ++ spelled_id next in
+    let more : flat_map g (ids ++ id ∷ []) ≡ flat_map g ids ++ g id = flat_map-append g ids (id ∷ []) ∙ ap (λ z. flat_map g ids ++ z) (append-nil (g id)) in
+    ap (λ z. codes " " ++ (spelled_id x ++ z)) more ∙ ap (λ z. codes " " ++ z) (sym (append_assoc (spelled_id x) (flat_map g ids) (g id)))
+    ∙ ap (λ b. codes " " ++ ((spelled_id x ++ flat_map g ids) ++ (cond b (codes " ") (codes ", ") ++ spelled_id id))) (sym (not_none (length ids)))
+  where
+    not_none : (n : ℕ) → suc n == 0 ≡ false
+    not_none n = grind (arith, nat_tests)
+
+pub parents_more : (before old one two gap : List ℕ) (parents : List (List ℕ)) (n : ℕ) (id : List ℕ) → Some id ≡ slice_get parents n → old ≡ before ++ parents_text (take n parents) → gap ≡ cond (n == 0) (codes " ") (codes ", ") → one ≡ old ++ gap → two ≡ one ++ spelled_id id
+    → two ≡ before ++ parents_text (take (n + 1) parents)
+parents_more before old one two gap parents n id e o g a b =
+    let l : n < length parents = slice_get_within parents n id (sym e) in
+    let i : id ≡ get_or parents n id = sym (get_or_from_slice_get parents n id id (sym e)) in
+    let len : length (take n parents) ≡ n = length-take-le n parents (omega (arith, l)) in
+    let gap_is : gap ≡ cond (length (take n parents) == 0) (codes " ") (codes ", ") = g ∙ ap (λ k. cond (k == 0) (codes " ") (codes ", ")) (sym len) in
+    b ∙ ap (λ z. z ++ spelled_id id) (a ∙ ap (λ z. old ++ z) gap_is ∙ ap (λ z. z ++ cond (length (take n parents) == 0) (codes " ") (codes ", ")) o)
+    ∙ append_assoc (before ++ parents_text (take n parents)) (cond (length (take n parents) == 0) (codes " ") (codes ", ")) (spelled_id id) ∙ append_assoc before (parents_text (take n parents)) _
+    ∙ ap (λ z. before ++ z) (sym (ap parents_text (taken_more parents n id l i) ∙ next_parent (take n parents) id))
+
+-- a place within a list has an item
+pub none_within : {X : Type 0} (xs : List X) (n : ℕ) → None ≡ slice_get xs n → n < length xs → ⊥
+none_within [] n e l = absurd (omega arith)
+none_within (x ∷ xs) n e l = none-some (get_or (x ∷ xs) n x) (e ∙ slice_get-get_or (x ∷ xs) n x l)
+
+-- pieces that are written one after the other
+pub three : (old one two new a b c : List ℕ) → one ≡ old ++ a → two ≡ one ++ b → new ≡ two ++ c → new ≡ old ++ (a ++ (b ++ c))
+three old one two new a b c p q r = r ∙ ap (λ z. z ++ c) (q ∙ ap (λ z. z ++ b) p) ∙ append_assoc (old ++ a) b c ∙ append_assoc old a (b ++ c)

@@ -1,0 +1,48 @@
+//! Laws of the definitions, each the contract of a function that does nothing.
+
+ghost use Rattle.std.specs.Prelude.{◌≡◌, ◌+◌, ◌-◌, ◌↔◌, List, ℕ, [], ◌∷◌, ◌++◌, Some, None, IsSome, take, drop, length};
+ghost use Rattle.braid_change.specs.Changes.{IsShaped};
+ghost use Rattle.braid_change.specs.Updates.{UpdateView};
+ghost use Rattle.braid_change.specs.Spellings.{canonical, canonical_all};
+ghost use Rattle.std.specs.List.{AllByRecursion};
+ghost use Rattle.braid_change.specs.Splices.{ranges, cut, spliced, first_past, AreRanges, removed, inserted};
+ghost use Rattle.braid_change.specs.declared.patch.Patch.{Patch};
+ghost use Rattle.braid_change.specs.declared.change.Change.{Change};
+ghost use Rattle.braid_change.specs.declared.change.Change.TheVariants.{Body, Patches};
+
+/// A body gives itself, whatever the text was.
+pub fn body_gives_itself()
+    ensures law { (t body : List ℕ) → spliced t (Body body) ≡ Some body }
+{}
+
+/// A change has no splice exactly where there is a first joined patch past the text's end.
+pub fn undefined_past_the_end()
+    ensures law { (t : List ℕ) (change : Change) → spliced t change ≡ None ↔ IsSome (first_past t change) }
+{}
+
+/// The ranges of a change of the accepted shape rise, do not overlap, and lie within the text.
+pub fn ranges_rise()
+    ensures law { (t : List ℕ) (change : Change) (rs : List Patch) → IsShaped change → ranges t change ≡ Some rs → AreRanges 0 (length t) rs }
+{}
+
+/// What stands before the first range, between two and after the last is unchanged and in order, and each range
+/// gives way to its text: a splice is what stood before a range, cut at the ranges before it, the range's text, and
+/// what stood after it, cut at the ranges after it.
+pub fn keeps_the_rest()
+    ensures each { (t s : List ℕ) (change : Change) (front back : List Patch) (r : Patch) → IsShaped change → ranges t change ≡ Some (front ++ r ∷ back) → spliced t change ≡ Some s → s ≡ cut 0 (take r.start t) front ++ (r.text ++ cut r.end (drop r.end t) back) }
+    ensures before { (t s : List ℕ) (change : Change) (r : Patch) (back : List Patch) → IsShaped change → ranges t change ≡ Some (r ∷ back) → spliced t change ≡ Some s → s ≡ take r.start t ++ (r.text ++ cut r.end (drop r.end t) back) }
+    ensures between { (t s : List ℕ) (change : Change) (front back : List Patch) (q r : Patch) → IsShaped change → ranges t change ≡ Some (front ++ q ∷ r ∷ back) → spliced t change ≡ Some s → s ≡ cut 0 (take q.start t) front ++ (q.text ++ (take (r.start - q.end) (drop q.end t) ++ (r.text ++ cut r.end (drop r.end t) back))) }
+    ensures after { (t s : List ℕ) (change : Change) (front : List Patch) (r : Patch) → IsShaped change → ranges t change ≡ Some (front ++ r ∷ []) → spliced t change ≡ Some s → s ≡ cut 0 (take r.start t) front ++ (r.text ++ drop r.end t) }
+{}
+
+/// A splice is as long as the text was, less what the ranges replace, with what they put in.
+pub fn length_after()
+    ensures law { (t s : List ℕ) (change : Change) (rs : List Patch) → IsShaped change → ranges t change ≡ Some rs → spliced t change ≡ Some s → length s + removed rs ≡ length t + inserted rs }
+{}
+
+/// No bytes begin with the canonical spellings of two updates. So two updates with one spelling are the same, and so
+/// are two lists of updates whose spellings are the same one after the other.
+pub fn one_spelling()
+    ensures one { (u v : UpdateView) (front back : List ℕ) → IsShaped u.change → IsShaped v.change → canonical u ++ front ≡ canonical v ++ back → (u ≡ v) × (front ≡ back) }
+    ensures all { (us vs : List UpdateView) → AllByRecursion (λ u. IsShaped u.change) us → AllByRecursion (λ u. IsShaped u.change) vs → canonical_all us ≡ canonical_all vs → us ≡ vs }
+{}

@@ -1,0 +1,5 @@
+use Rattle.braid_graph.proofs.Marked.{IsWalked}
+use Rattle.braid_graph.proofs.graph.Graph.marked.Given as goal
+
+abbrev pub invariant-loop-n : goal.invariant-loop-n
+invariant-loop-n l = IsWalked l.self l.of l.n l.marks

@@ -1,0 +1,6 @@
+pub mod Entries
+pub mod Ancestries
+pub mod Levels
+pub mod Frontiers
+pub mod Orders
+pub mod Inside

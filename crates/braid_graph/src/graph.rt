@@ -1,0 +1,317 @@
+ghost use Rattle.std.specs.Prelude.{◌≡◌, ◌<◌, ◌≤◌, ◌++◌, ◌∷◌, ◌+◌, ◌↔◌, ◌⊎◌, [], List, ℕ, Some, false, length, replicate, reverse, slice_get, Contains, IfOk, IfErr, OnOk, OnErr, IfSome, IfNone, IsTrue, vec_len};
+ghost use Rattle.std.specs.List.{AllZip};
+ghost use Rattle.std.specs.Option.{option_map, option_copied};
+ghost use Rattle.braid_ids.specs.MarkSets.{IsMarked};
+ghost use Rattle.braid_graph.specs.Entries.{GraphEntry, ids_of, Holds, HoldsAll, IsHistoryGraph};
+ghost use Rattle.braid_graph.specs.Ancestries.{Covers, MarksAncestry, IsUnknown, NamesUnknown};
+ghost use Rattle.braid_graph.specs.Levels.{greatest_by, level_of};
+ghost use Rattle.braid_graph.specs.Frontiers.{IsFrontierOf, frontier_of, heads_of};
+ghost use Rattle.braid_graph.specs.Inside.{IsNumberOf, IsParentNumber, MarksMembers, AllMarked, IsLeastOf, lesser_of};
+
+use crate::heads::Heads;
+use crate::links::Links;
+use braid_ids::{Frontier, Id, Marks, Memory, Unknown};
+use indexmap::IndexMap;
+use std::alloc::Global;
+use std::marker::Model;
+
+/// A version graph: versions with their parents, in order of arrival, each parent before its children.
+#[derive(Drop)]
+pub struct Graph {
+    entries: IndexMap<Id, Frontier>,
+    links: Vec<Links>,
+    heads: Heads,
+    alloc: Global,
+}
+
+impl Model for Graph {
+    ghost use Rattle.std.specs.Prelude.{List};
+    ghost use Rattle.braid_graph.specs.Entries.{GraphEntry};
+    ghost use Rattle.braid_graph.specs.Inside.{entries_in, IsKept};
+
+    ghost Value = { List GraphEntry };
+
+    ghost view = { λ graph. entries_in graph.entries.entries };
+
+    ghost invariant = { λ graph. IsKept (entries_in graph.entries.entries) graph.links.items graph.heads };
+}
+
+impl Graph {
+    /// The graph without entries. It takes no memory.
+    pub fn new(alloc: Global) -> Graph
+        ensures none { result ≡ [] }
+    {
+        Graph {
+            entries: IndexMap::new(alloc),
+            links: Vec::new(alloc),
+            heads: Heads::new(alloc),
+            alloc,
+        }
+    }
+
+    /// Puts an entry at the end, and answers its arrival number.
+    ///
+    /// Errors: `Memory` where there was none to grow; the graph is then unchanged, and what was given is dropped.
+    pub fn add(&mut self, id: Id, parents: Frontier) -> Result<u32, Memory>
+        requires new { ¬ (Holds self.old id) }
+        requires held { HoldsAll self.old parents }
+        requires few { length self.old < 524288 }
+        ensures ok { OnOk result (self.new ≡ self.old ++ record { id = id; parents = parents } ∷ []) }
+        ensures number { IfOk result (λ n. n ≡ length self.old) }
+        ensures err { OnErr result (self.new ≡ self.old) }
+    {
+        let number = self.entries.len() as u32;
+        let links = self.links_to(&parents)?;
+        self.entries.reserve(1)?;
+        self.links.reserve(1)?;
+        self.heads.add()?;
+        // From here on nothing can fail.
+        self.heads.clear_all(&links.parents);
+        let Ok(_) = self.links.push(links) else {
+            unreachable!()
+        };
+        let Ok(_) = self.entries.insert(id, parents) else {
+            unreachable!()
+        };
+        Ok(number)
+    }
+
+    /// The parents of a new entry by their numbers, and its level.
+    fn links_to(&self, parents: &Frontier) -> Result<Links, Memory>
+        requires held { HoldsAll self.now parents.now }
+        ensures level { IfOk result (λ links. links.level ≡ 1 + greatest_by (level_of self.now) parents.now) }
+        ensures parents { IfOk result (λ links. AllZip (IsNumberOf self.now) parents.now links.parents.items) }
+    {
+        let mut numbers = Vec::with_capacity(self.alloc, parents.len() as usize)?;
+        let mut greatest = 0;
+        for i in 0..parents.len() {
+            let Some(id) = parents.get(i) else {
+                unreachable!()
+            };
+            let Some(n) = self.index_of(id) else {
+                unreachable!()
+            };
+            numbers.push(n)?;
+            greatest = greatest.max(self.level(n));
+        }
+        Ok(Links {
+            parents: numbers,
+            level: greatest + 1,
+        })
+    }
+
+    /// The arrival number of the entry with this identifier, counted from 0. It takes no memory.
+    pub fn index_of(&self, id: &Id) -> Option<u32>
+        ensures found { IfSome result (λ n. slice_get (ids_of self.now) n ≡ Some id.now) }
+        ensures none { IfNone result (¬ (Holds self.now id.now)) }
+        ensures valid { IsHistoryGraph self.now }
+        ensures few { length self.now ≤ 524288 }
+    {
+        match self.entries.get_index_of(id) {
+            Some(n) => Some(n as u32),
+            None => None,
+        }
+    }
+
+    /// The entry with this arrival number: its identifier and its parents. It takes no memory.
+    pub fn at(&self, n: u32) -> Option<(&Id, &Frontier)>
+        ensures value { option_map (λ p. record { id = p.0.now; parents = p.1.now }) result ≡ slice_get self.now n }
+    {
+        self.entries.get_index(n as usize)
+    }
+
+    /// The level of the entry with this arrival number: 1 plus the greatest level of its parents, and 1 without
+    /// parents. It takes no memory.
+    pub fn level(&self, n: u32) -> u32
+        requires { n < length self.now }
+        ensures level { IfSome (slice_get self.now n) (λ e. result ≡ level_of self.now e.id) }
+        ensures small { result ≤ length self.now }
+    {
+        self.links[n as usize].level
+    }
+
+    /// How many identifiers are no entry's parent. It takes no memory and constant time.
+    pub fn width(&self) -> u32
+        ensures width { result ≡ length (frontier_of self.now) }
+    {
+        self.heads.count()
+    }
+
+    /// The set of the identifiers that are no entry's parent.
+    ///
+    /// Errors: `Memory` where there was none for the copies.
+    pub fn frontier(&self, alloc: Global) -> Result<Frontier, Memory>
+        ensures ok { IfOk result (λ frontier. IsFrontierOf self.now frontier) }
+    {
+        Frontier::of(self.head_ids(alloc)?)
+    }
+
+    /// The identifiers that are no entry's parent, the newest first.
+    fn head_ids(&self, alloc: Global) -> Result<Vec<Id>, Memory>
+        ensures ok { IfOk result (λ ids. ids.items ≡ reverse (heads_of self.now)) }
+        ensures few { IfOk result (λ ids. vec_len ids ≤ 524288) }
+    {
+        let width = self.heads.count() as usize;
+        let mut ids = Vec::with_capacity(alloc, width)?;
+        for n in (0..self.entries.len()).rev() {
+            if ids.len() == width {
+                break;
+            }
+            if self.heads.has(n as u32) {
+                let Some((id, _)) = self.entries.get_index(n) else {
+                    unreachable!()
+                };
+                ids.push(id.copy(alloc)?)?;
+            }
+        }
+        Ok(ids)
+    }
+
+    /// The arrival numbers of the ancestry of a frontier: of its members, their parents, their parents' parents and so on.
+    ///
+    /// It takes time linear in the entries and their parents.
+    ///
+    /// Errors: `Unknown::Id` where a member of the frontier is not held, with the least that is not; `Unknown::Memory`
+    /// where there was none.
+    pub fn ancestry(&self, alloc: Global, of: &Frontier) -> Result<Marks, Unknown>
+        ensures ok { IfOk result (λ marks. MarksAncestry self.now of.now marks) }
+        ensures fault { IfErr result (λ unknown. IsUnknown self.now of.now unknown) }
+    {
+        if let Some(id) = self.least_unheld(of) {
+            return Err(unknown(alloc, id));
+        }
+        match self.marked(alloc, of) {
+            Ok(marks) => Ok(marks),
+            Err(_) => Err(Unknown::Memory),
+        }
+    }
+
+    /// Whether each member of `lower` is in the ancestry of `upper`.
+    ///
+    /// Errors: `Unknown::Id` where a member of either is not held, with the least of both that is not;
+    /// `Unknown::Memory` where there was none.
+    pub fn covers(&self, alloc: Global, upper: &Frontier, lower: &Frontier) -> Result<bool, Unknown>
+        ensures held { OnOk result (HoldsAll self.now (upper.now ++ lower.now)) }
+        ensures ok { IfOk result (λ covered. IsTrue covered ↔ Covers self.now upper.now lower.now) }
+        ensures fault { IfErr result (λ unknown. IsUnknown self.now (upper.now ++ lower.now) unknown) }
+    {
+        if let Some(id) = self.least_unheld_of_both(upper, lower) {
+            return Err(unknown(alloc, id));
+        }
+        match self.marked(alloc, upper) {
+            Ok(marks) => Ok(self.all_marked(lower, &marks)),
+            Err(_) => Err(Unknown::Memory),
+        }
+    }
+
+    /// The least of these identifiers that no entry has.
+    pub(crate) fn least_unheld<'a>(&self, of: &'a Frontier) -> Option<&'a Id>
+        ensures least { IsLeastOf self.now of.now (option_copied result) }
+    {
+        let mut least: Option<&'a Id> = None;
+        for i in 0..of.len() {
+            let Some(id) = of.get(i) else { unreachable!() };
+            if self.index_of(id).is_none() {
+                least = Some(lesser(least, id));
+            }
+        }
+        least
+    }
+
+    /// The least identifier of two frontiers that no entry has.
+    fn least_unheld_of_both<'a>(&self, one: &'a Frontier, other: &'a Frontier) -> Option<&'a Id>
+        ensures least { IsLeastOf self.now (one.now ++ other.now) (option_copied result) }
+    {
+        match (self.least_unheld(one), self.least_unheld(other)) {
+            (least, Some(id)) => Some(lesser(least, id)),
+            (least, None) => least,
+        }
+    }
+
+    /// The arrival numbers of the ancestry of a frontier whose members are held.
+    ///
+    /// A parent's number is below its child's: so one pass from the greatest number to the least finds all,
+    /// and the marks themselves are the list of what is left to do.
+    fn marked(&self, alloc: Global, of: &Frontier) -> Result<Marks, Memory>
+        requires held { HoldsAll self.now of.now }
+        ensures ok { IfOk result (λ marks. MarksAncestry self.now of.now marks) }
+    {
+        let mut marks = Marks::of(alloc, self.entries.len() as u32)?;
+        let end = self.mark_members(of, &mut marks)?;
+        for n in (0..end).rev() {
+            if !marks.has(n) {
+                continue;
+            }
+            self.mark_parents(n, &mut marks)?;
+        }
+        Ok(marks)
+    }
+
+    /// Marks the numbers of held identifiers, and answers a number that is above them all.
+    fn mark_members(&self, of: &Frontier, marks: &mut Marks) -> Result<u32, Memory>
+        requires held { HoldsAll self.now of.now }
+        requires blank { marks.old ≡ replicate (length self.now) false }
+        ensures ok { IfOk result (λ end. MarksMembers self.now of.now end marks.new) }
+    {
+        let mut end = 0;
+        for i in 0..of.len() {
+            let Some(id) = of.get(i) else { unreachable!() };
+            let Some(n) = self.index_of(id) else {
+                unreachable!()
+            };
+            marks.add(n, n + 1)?;
+            end = end.max(n + 1);
+        }
+        Ok(end)
+    }
+
+    /// Marks the numbers of an entry's parents.
+    fn mark_parents(&self, n: u32, marks: &mut Marks) -> Result<(), Memory>
+        requires within { n < length self.now }
+        requires size { length marks.old ≡ length self.now }
+        ensures size { length marks.new ≡ length marks.old }
+        ensures ok { OnOk result ((m : ℕ) → IsMarked marks.new m ↔ (IsMarked marks.old m ⊎ IsParentNumber self.now n m)) }
+    {
+        for parent in &self.links[n as usize].parents {
+            marks.add(*parent, *parent + 1)?;
+        }
+        Ok(())
+    }
+
+    /// Whether the numbers of all of these identifiers are marked.
+    fn all_marked(&self, of: &Frontier, marks: &Marks) -> bool
+        requires held { HoldsAll self.now of.now }
+        ensures all { IsTrue result ↔ AllMarked self.now of.now marks.now }
+    {
+        for i in 0..of.len() {
+            let Some(id) = of.get(i) else { unreachable!() };
+            let Some(n) = self.index_of(id) else {
+                unreachable!()
+            };
+            if !marks.has(n) {
+                return false;
+            }
+        }
+        true
+    }
+}
+
+/// The lesser of two identifiers, where there are two.
+fn lesser<'a>(least: Option<&'a Id>, id: &'a Id) -> &'a Id
+    ensures lesser { result.now ≡ lesser_of (option_copied least.entry) id.now }
+{
+    match least {
+        Some(least) if least < id => least,
+        _ => id,
+    }
+}
+
+/// The answer that names an identifier which no entry has.
+fn unknown(alloc: Global, id: &Id) -> Unknown
+    ensures names { NamesUnknown result id.now }
+{
+    match id.copy(alloc) {
+        Ok(id) => Unknown::Id { id },
+        Err(_) => Unknown::Memory,
+    }
+}

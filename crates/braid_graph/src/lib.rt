@@ -1,0 +1,21 @@
+//! The version graph: which versions there are, which versions each stands on, and what follows from that.
+//!
+//! A graph is seen as the list of its entries (an identifier and the identifiers of its parents) in order of arrival.
+//! Parents are there before their children, and no identifier comes twice. From the entries alone follow a version's
+//! level, the graph's frontier, and the ancestry of a frontier: the least set with its members and each parent of a
+//! member. None of them depends on the order of arrival. Versions with parents are those of
+//! draft-toomim-httpbis-braid-http-04.
+//!
+//! An identifier is found in expected constant time, an ancestry in time linear in the entries and their parents.
+//! Nothing here knows what a version changes, and nothing is ever taken out of a graph.
+#![tactic(auto)]
+
+mod graph;
+mod heads;
+pub mod laws;
+mod links;
+
+pub use graph::Graph;
+
+#[cfg(test)]
+mod tests;

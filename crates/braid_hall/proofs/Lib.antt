@@ -1,0 +1,11 @@
+pub mod Places
+pub mod Members
+pub mod Histories
+pub mod Queues
+pub mod Numbers
+pub mod Keeps
+pub mod Splits
+pub mod Ends
+pub mod Shapes
+pub mod ManyPasses
+pub mod Kept

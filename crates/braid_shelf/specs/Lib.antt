@@ -1,0 +1,5 @@
+pub mod ByteClasses
+pub mod Lists
+pub mod Faults
+pub mod Reading
+pub mod Stops
