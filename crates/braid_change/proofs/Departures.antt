@@ -1,5 +1,5 @@
 -- A range is read from the left: what each step leaves, and where a value departs.
-use Rattle.std.proofs.Common.{◌≡◌, ◌≢◌, ◌==◌, ℕ, zero, suc, ◌+◌, ◌-◌, ◌<◌, ◌≤◌, ◌^◌, ◌⊎◌, inl, inr, List, [], ◌∷◌, ◌++◌, Bool, true, false, not, cond, ◌&&◌, refl, sym, ap, subst, ◌∙◌, arith, take, drop, length, get_or, codes, Bor, Result, Ok, Err, IfOk, IfErr, IsUtf8}
+use Rattle.std.proofs.Common.{◌≡◌, ◌≢◌, ◌==◌, ℕ, zero, suc, ◌+◌, ◌-◌, ◌<◌, ◌≤◌, ◌^◌, inl, inr, List, [], ◌∷◌, ◌++◌, Bool, true, false, not, cond, ◌&&◌, refl, sym, ap, subst, ◌∙◌, arith, take, drop, length, codes, Bor, Result, Ok, Err, IfOk, IfErr, IsUtf8}
 use Rattle.std.proofs.lemmas.List.{take-append-drop, length-append}
 use Rattle.std.proofs.lemmas.List.Folds.{length-prefix_len}
 use Rattle.std.proofs.lemmas.Bool.{and_parts, cases_lt}
@@ -12,8 +12,7 @@ use Rattle.std.specs.List.{prefix_len, list_all, take_while}
 use Rattle.std.specs.Char.{is_ascii_digit}
 use Rattle.std.specs.Str.{all_ascii_digits, IsAscii}
 use Rattle.std.specs.Str.Parse.{digits_value, ParsesUnsigned}
-use Rattle.std.specs.Result.{OkIff}
-use Rattle.braid_change.specs.RangeForms.{is_space, is_other, starts, IsGap, IsNumber, IsTooLarge, AfterGap, AfterBracket, AfterStart, AfterColon, AfterEnd, AfterClose, IsRange, IsDeparture, no_gap, no_bracket, no_start, no_colon, no_end, no_close, more, BeginsTooLarge, IsRangeFault, IsByteFault, IsNumberFault}
+use Rattle.braid_change.specs.RangeForms.{is_space, is_other, starts, IsNumber, IsTooLarge, AfterGap, AfterBracket, AfterStart, AfterColon, AfterEnd, AfterClose, IsDeparture, no_bracket, no_start, no_colon, no_end, no_close, IsRangeFault, IsByteFault, IsNumberFault}
 use Rattle.braid_change.specs.declared.range.RangeFault.{RangeFault}
 use Rattle.braid_change.specs.declared.range.RangeFault.TheVariants.{Unit, Form, Number}
 

@@ -8,3 +8,4 @@ pub mod Pieces
 pub mod Written
 pub mod Read
 pub mod Departures
+pub mod OneRange

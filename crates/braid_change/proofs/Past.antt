@@ -1,5 +1,5 @@
 -- The first joined patch past the end of a text is found without joining the patches.
-use Rattle.std.proofs.Common.{◌≡◌, ◌==◌, ℕ, ◌+◌, ◌-◌, ◌<◌, ◌≤◌, List, [], ◌∷◌, ◌++◌, suc, Bool, true, false, cond, nat_lt, nat_le, ◌&&◌, Option, Some, None, refl, sym, ap, subst, ◌∙◌, arith, drop, length, get_or, slice_get}
+use Rattle.std.proofs.Common.{◌≡◌, ◌==◌, ℕ, ◌+◌, ◌<◌, ◌≤◌, List, [], ◌∷◌, ◌++◌, suc, Bool, true, false, cond, nat_lt, nat_le, ◌&&◌, Option, Some, None, refl, sym, ap, ◌∙◌, arith, drop, length, get_or, slice_get}
 use Rattle.std.proofs.Math.Seq.{drop-cons}
 use Rattle.std.proofs.lemmas.Bool.Decides.{nat_tests}
 use Rattle.std.specs.List.{position_from}

@@ -1,5 +1,5 @@
 -- What a splice keeps and what it puts in.
-use Rattle.std.proofs.Common.{◌≡◌, ◌==◌, ℕ, ◌+◌, ◌-◌, ◌<◌, ◌≤◌, ◌↔◌, List, [], ◌∷◌, ◌++◌, Bool, true, false, cond, nat_le, ◌&&◌, Option, Some, None, IsSome, option_map, refl, sym, ap, subst, ◌∙◌, arith, take, drop, length, sum_by, append_assoc, length-append}
+use Rattle.std.proofs.Common.{◌≡◌, ◌==◌, ℕ, ◌+◌, ◌-◌, ◌<◌, ◌≤◌, ◌↔◌, List, [], ◌∷◌, ◌++◌, Bool, true, false, cond, nat_le, Option, Some, None, IsSome, option_map, refl, sym, ap, subst, ◌∙◌, arith, take, drop, length, append_assoc, length-append}
 use Rattle.std.proofs.lemmas.List.{append-nil, drop_all, drop-take, take-take, length-take-le, length-drop, drop-drop}
 use Rattle.std.proofs.lemmas.Bool.{and_parts}
 use Rattle.std.proofs.lemmas.List.Sums.{sum_by-cons}
@@ -10,9 +10,9 @@ use Rattle.braid_change.specs.Splices.{join, joined, all_within, ranges, cut, sp
 use Rattle.braid_change.specs.declared.patch.Patch.{Patch}
 use Rattle.braid_change.specs.declared.change.Change.{Change}
 use Rattle.braid_change.specs.declared.change.Change.TheVariants.{Body, Patches}
-use Rattle.braid_change.proofs.Runs.{Opens, opens, join_other, same_start}
+use Rattle.braid_change.proofs.Runs.{same_start}
 use Rattle.braid_change.proofs.Past.{none_past, some_past}
-use Rattle.braid_change.proofs.Cuts.{joins, le_is, drop_on, cut_joined, within_joined}
+use Rattle.braid_change.proofs.Cuts.{le_is, drop_on, cut_joined, within_joined}
 
 -- a body gives itself
 pub body_spliced : (t x : List ℕ) → spliced t (Body x) ≡ Some x

@@ -1,7 +1,6 @@
 -- No bytes begin with the canonical spellings of two updates.
-use Rattle.std.proofs.Common.{◌≡◌, ◌≢◌, ℕ, suc, ◌+◌, ◌<◌, ◌≤◌, ◌^◌, List, [], ◌∷◌, ◌++◌, refl, ap, sym, ◌∙◌, arith, length, append_assoc, length-append, flat_map, codes, decimal, encode_utf8_all, take, get_or}
+use Rattle.std.proofs.Common.{◌≡◌, ℕ, ◌<◌, ◌≤◌, ◌^◌, List, [], ◌∷◌, ◌++◌, refl, ap, sym, ◌∙◌, arith, length, append_assoc, length-append, flat_map, codes, decimal, encode_utf8_all}
 use Rattle.std.proofs.lemmas.List.{append_cancel_left}
-use Rattle.std.proofs.Math.Seq.{take-append_seam, drop-append_seam}
 use Rattle.std.proofs.lemmas.Str.{encodes_same}
 use Rattle.std.proofs.lemmas.Str.Parse.{IsNumeralModel, numerals_by_value, tells_digits, not_in_digits}
 use Rattle.std.specs.Str.Parse.{AllDigits, digits_value}
@@ -12,8 +11,8 @@ use Rattle.braid_ids.specs.Identifiers.{spelled_id}
 use Rattle.braid_ids.proofs.Splits.{one_split, lacks_at}
 use Rattle.braid_ids.proofs.Spelled.{spelling_same}
 use Rattle.braid_change.specs.Changes.{patches_of, content_len, patches_content, AreListed, AreNumbered, IsShaped}
-use Rattle.braid_change.specs.Updates.{UpdateView, IsBuilt}
-use Rattle.braid_change.specs.Spellings.{id_list, parents_text, length_text, content_text, range_text, patch_text, change_text, canonical}
+use Rattle.braid_change.specs.Updates.{UpdateView}
+use Rattle.braid_change.specs.Spellings.{parents_text, length_text, content_text, range_text, patch_text, change_text, canonical}
 use Rattle.braid_change.specs.declared.patch.Patch.{Patch}
 use Rattle.braid_change.specs.declared.change.Change.{Change}
 use Rattle.braid_change.specs.declared.change.Change.TheVariants.{Body, Patches}

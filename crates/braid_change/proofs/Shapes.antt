@@ -2,7 +2,7 @@
 use Rattle.std.proofs.Common.{◌≡◌, ℕ, ◌+◌, ◌≤◌, List, [], ◌∷◌, Bool, true, false, cond, None, Some, refl, subst, arith, length}
 use Rattle.std.specs.List.{position_from}
 use Rattle.std.proofs.lemmas.Bool.{ltb-false}
-use Rattle.braid_change.specs.Changes.{patches_of, content_len, is_backwards, do_overlap, neighbours, first_backwards, AreListed, AreNumbered}
+use Rattle.braid_change.specs.Changes.{patches_of, content_len, is_backwards, do_overlap, neighbours, first_backwards, AreListed, AreNumbered, AreScalars}
 use Rattle.braid_change.specs.Updates.{IsBuilt}
 use Rattle.braid_change.specs.declared.change.Change.{Change}
 use Rattle.braid_change.specs.declared.patch.Patch.{Patch}
@@ -27,9 +27,10 @@ listed [] back over = tt
 listed (p ∷ ps) back over = listed_from ps 0 0 0 p (omega arith) back over
 
 -- what the tests of `build` say together
-pub built : (parents : List (List ℕ)) (change : Change) (ps : List Patch) → ps ≡ patches_of change → length parents ≤ 32 → length ps ≤ 1000 → first_backwards ps ≡ None → position_from do_overlap 0 (neighbours ps) ≡ None → content_len change ≤ 1048576 → AreNumbered (patches_of change) → IsBuilt parents change
-built parents change ps e few some back over short numbered =
+pub built : (parents : List (List ℕ)) (change : Change) (ps : List Patch) → ps ≡ patches_of change → length parents ≤ 32 → length ps ≤ 1000 → first_backwards ps ≡ None → position_from do_overlap 0 (neighbours ps) ≡ None → content_len change ≤ 1048576 → AreNumbered (patches_of change) → AreScalars change → IsBuilt parents change
+built parents change ps e few some back over short numbered scalar =
     record {
       few_parents = few;
       shaped = record { few = subst (λ (qs : List Patch). length qs ≤ 1000) e some; listed = subst (AreListed 0) e (listed ps back over); short = short; numbered = numbered };
+      scalar = scalar;
     }

@@ -1,5 +1,5 @@
 -- What is written item by item is what the whole list is spelled as.
-use Rattle.std.proofs.Common.{◌≡◌, ◌==◌, ℕ, suc, ◌+◌, ◌<◌, ◌≤◌, ◌^◌, List, [], ◌∷◌, ◌++◌, Some, None, false, cond, refl, ap, sym, ◌∙◌, arith, take, length, get_or, slice_get, append_assoc, flat_map, codes, encode_utf8, encode_utf8_all}
+use Rattle.std.proofs.Common.{◌≡◌, ◌==◌, ℕ, suc, ◌+◌, ◌<◌, ◌^◌, List, [], ◌∷◌, ◌++◌, Some, None, false, cond, ap, sym, ◌∙◌, arith, take, length, get_or, slice_get, append_assoc, flat_map, codes, encode_utf8, encode_utf8_all}
 use Rattle.std.proofs.lemmas.List.{take_more, append-nil, length-take-le}
 use Rattle.std.proofs.lemmas.List.Folds.{length-flat_map-take}
 use Rattle.std.proofs.lemmas.Grind.{flat_map-append}

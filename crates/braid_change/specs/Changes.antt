@@ -1,6 +1,7 @@
 -- Changes: their patches, their content, and the shape that an update asks of them.
-use Rattle.std.specs.Prelude.{ℕ, ◌≤◌, ◌<◌, ◌^◌, nat_lt, Bool, List, [], ◌∷◌, length, drop, flat_map, encode_utf8_all, Option, ◌+◌}
+use Rattle.std.specs.Prelude.{◌≡◌, true, ℕ, ◌≤◌, ◌<◌, ◌^◌, nat_lt, Bool, List, [], ◌∷◌, length, drop, flat_map, encode_utf8_all, Option, ◌+◌}
 use Rattle.std.specs.Option.{option_map}
+use Rattle.std.specs.Str.{all_scalars}
 use Rattle.std.specs.List.{zip, position_from, AllByRecursion}
 use Rattle.braid_change.specs.declared.patch.Patch.{Patch}
 use Rattle.braid_change.specs.declared.change.Change.{Change}
@@ -52,6 +53,15 @@ AreListed low (p ∷ ps) = (low ≤ p.start) × (p.start ≤ p.end) × AreListed
 -- the patches' ends are below 2^32, as those of every patch of the program are
 abbrev pub AreNumbered : List Patch → Type 0
 AreNumbered patches = AllByRecursion (λ (p : Patch). p.end < 2 ^ 32) patches
+
+-- the patches' texts are scalar values
+abbrev pub HaveScalars : List Patch → Type 0
+HaveScalars patches = AllByRecursion (λ (p : Patch). all_scalars p.text ≡ true) patches
+
+-- all texts of a change are scalar values
+abbrev pub AreScalars : Change → Type 0
+AreScalars (Body text) = all_scalars text ≡ true
+AreScalars (Patches patches) = HaveScalars patches
 
 -- the shape of a change that an update may have
 pub record IsShaped (change : Change) : Type 0 where

@@ -1,5 +1,5 @@
 -- Joined patches, the ranges that a change replaces, and the splice of a text (after Range Patch of the Braid drafts).
-use Rattle.std.specs.Prelude.{◌≡◌, ℕ, ◌+◌, ◌-◌, ◌==◌, ◌≤◌, ◌<◌, nat_le, nat_lt, List, [], ◌∷◌, ◌++◌, length, take, drop, sum_by, Bool, true, ◌&&◌, if◌then◌else◌, Option, Some, None}
+use Rattle.std.specs.Prelude.{◌≡◌, ℕ, ◌-◌, ◌==◌, ◌≤◌, ◌<◌, nat_le, nat_lt, List, [], ◌∷◌, ◌++◌, length, take, drop, sum_by, Bool, true, ◌&&◌, if◌then◌else◌, Option, Some, None}
 use Rattle.std.specs.Option.{option_map}
 use Rattle.std.specs.List.{position_from}
 use Rattle.braid_change.specs.declared.patch.Patch.{Patch}

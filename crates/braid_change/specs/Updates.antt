@@ -1,6 +1,6 @@
 -- What contracts see of an update, and which parts make one.
 use Rattle.std.specs.Prelude.{◌≡◌, ℕ, ◌-◌, ◌^◌, ◌<◌, ◌≤◌, min, List, length, Some, None}
-use Rattle.braid_change.specs.Changes.{patches_of, content_len, first_backwards, first_overlap, IsShaped}
+use Rattle.braid_change.specs.Changes.{patches_of, content_len, first_backwards, first_overlap, AreScalars, IsShaped}
 use Rattle.braid_change.specs.declared.change.Change.{Change}
 use Rattle.braid_change.specs.declared.update.BuildFault.{BuildFault}
 use Rattle.braid_change.specs.declared.update.BuildFault.TheVariants.{TooManyParents, TooManyPatches, Backwards, Overlap, TooLong}
@@ -11,10 +11,11 @@ pub record UpdateView : Type 0 where
   pub parents : List (List ℕ)
   pub change : Change
 
--- at most 32 parents, and a change that has its shape
+-- at most 32 parents, and a change that has its shape; its texts are scalar values
 pub record IsBuilt (parents : List (List ℕ)) (change : Change) : Type 0 where
   pub few_parents : length parents ≤ 32
   pub shaped : IsShaped change
+  pub scalar : AreScalars change
 
 -- the fault of parts that make no update: the first of these, in this order
 abbrev pub IsBuildFault : List (List ℕ) → Change → BuildFault → Type 0

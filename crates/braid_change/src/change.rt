@@ -1,5 +1,5 @@
 ghost use Rattle.std.specs.Prelude.{◌≡◌, ◌-◌, ◌^◌, min, length, ◌↔◌, IfOk, IsTrue};
-ghost use Rattle.braid_change.specs.Changes.{patches_of, patches_content, content_len, AreNumbered};
+ghost use Rattle.braid_change.specs.Changes.{patches_of, patches_content, content_len, AreNumbered, AreScalars, HaveScalars};
 
 use crate::patch::{ListPatch, Patch};
 use crate::text::Text;
@@ -30,7 +30,8 @@ impl Change {
     /// It takes no memory.
     pub fn utf8_len(&self) -> u64
         ensures len { result ≡ min (content_len self.now) (2 ^ 64 - 1) }
-        ensures valid { AreNumbered (patches_of self.now) }
+        ensures numbered { AreNumbered (patches_of self.now) }
+        ensures scalar { AreScalars self.now }
     {
         match self {
             Change::Body(text) => text.utf8_len(),
@@ -65,7 +66,8 @@ impl Change {
 /// The number of UTF-8 bytes of the patches' texts together, or the greatest `u64` where they are more.
 fn patches_len(patches: &[Patch]) -> u64
     ensures len { result ≡ min (length (patches_content patches.now)) (2 ^ 64 - 1) }
-    ensures valid { AreNumbered patches.now }
+    ensures numbered { AreNumbered patches.now }
+    ensures scalar { HaveScalars patches.now }
 {
     let mut len: u64 = 0;
     for patch in patches {

@@ -9,8 +9,6 @@ use std::alloc::Global;
 
 /// The patches with neighbours of one start made into one, which has the last end and the texts in order.
 ///
-/// The patches are those of a built update.
-///
 /// Errors: `Memory` where there was none for the joined patches.
 pub fn joined(alloc: Global, patches: &[Patch]) -> Result<Vec<Patch>, Memory>
     ensures ok { IfOk result (λ list. list.items ≡ joined patches.now) }

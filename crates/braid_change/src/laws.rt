@@ -1,9 +1,11 @@
 //! Laws of the definitions, each the contract of a function that does nothing.
 
-ghost use Rattle.std.specs.Prelude.{◌≡◌, ◌+◌, ◌-◌, ◌↔◌, List, ℕ, [], ◌∷◌, ◌++◌, Some, None, IsSome, take, drop, length};
+ghost use Rattle.std.specs.Prelude.{◌≡◌, ◌<◌, ◌^◌, ◌+◌, ◌-◌, ◌↔◌, List, ℕ, [], ◌∷◌, ◌++◌, Some, None, IsSome, take, drop, length};
 ghost use Rattle.braid_change.specs.Changes.{IsShaped};
 ghost use Rattle.braid_change.specs.Updates.{UpdateView};
-ghost use Rattle.braid_change.specs.Spellings.{canonical, canonical_all};
+ghost use Rattle.braid_change.specs.Spellings.{range_text, canonical, canonical_all};
+ghost use Rattle.braid_change.specs.RangeForms.{IsRange, IsRangeFault};
+ghost use Rattle.braid_change.specs.declared.range.RangeFault.{RangeFault};
 ghost use Rattle.std.specs.List.{AllByRecursion};
 ghost use Rattle.braid_change.specs.Splices.{ranges, cut, spliced, first_past, AreRanges, removed, inserted};
 ghost use Rattle.braid_change.specs.declared.patch.Patch.{Patch};
@@ -45,4 +47,11 @@ pub fn length_after()
 pub fn one_spelling()
     ensures one { (u v : UpdateView) (front back : List ℕ) → IsShaped u.change → IsShaped v.change → canonical u ++ front ≡ canonical v ++ back → (u ≡ v) × (front ≡ back) }
     ensures all { (us vs : List UpdateView) → AllByRecursion (λ u. IsShaped u.change) us → AllByRecursion (λ u. IsShaped u.change) vs → canonical_all us ≡ canonical_all vs → us ≡ vs }
+{}
+
+/// A value is one range at most, and none where it has a fault; and what a range is spelled as is that range.
+pub fn one_range()
+    ensures one { (value : List ℕ) (m n i j : ℕ) → IsRange value m i → IsRange value n j → (m ≡ n) × (i ≡ j) }
+    ensures faultless { (value : List ℕ) (m i : ℕ) (fault : RangeFault) → IsRange value m i → IsRangeFault value fault → ⊥ }
+    ensures spelled { (m i : ℕ) → m < 2 ^ 32 → i < 2 ^ 32 → IsRange (range_text m i) m i }
 {}

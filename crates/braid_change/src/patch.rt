@@ -1,4 +1,5 @@
-ghost use Rattle.std.specs.Prelude.{◌≡◌, ◌<◌, ◌↔◌, ◌-◌, ◌^◌, min, length, encode_utf8_all, IfOk, IsTrue};
+ghost use Rattle.std.specs.Prelude.{◌≡◌, ◌<◌, ◌↔◌, ◌-◌, ◌^◌, true, min, length, encode_utf8_all, IfOk, IsTrue};
+ghost use Rattle.std.specs.Str.{all_scalars};
 
 use crate::text::Text;
 use braid_ids::Memory;
@@ -19,7 +20,8 @@ impl Patch {
     /// The number of bytes of its text's UTF-8, or 18,446,744,073,709,551,615 where they are more. It takes no memory.
     pub fn utf8_len(&self) -> u64
         ensures len { result ≡ min (length (encode_utf8_all self.now.text)) (2 ^ 64 - 1) }
-        ensures valid { self.now.end < 2 ^ 32 }
+        ensures numbered { self.now.end < 2 ^ 32 }
+        ensures scalar { all_scalars self.now.text ≡ true }
     {
         // A proof learns that a number fits its type where it is read.
         let _end = self.end;

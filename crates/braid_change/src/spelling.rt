@@ -14,7 +14,8 @@ use std::alloc::Global;
 /// The empty line that ends an update.
 const LAST_LINE: &[u8] = b"\r\n";
 
-/// The canonical spelling of an update: the one of its spellings in a stream in which nothing is left open.
+/// The canonical spelling of an update: its lines `Version` and `Parents`, its body or its patches as listed, and one
+/// last CRLF.
 ///
 /// Errors: `Memory` where there was none for the spelling.
 pub fn canon(alloc: Global, update: &Update) -> Result<Bytes, Memory>

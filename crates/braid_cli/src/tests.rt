@@ -52,13 +52,23 @@ fn run_words(
 #[test]
 fn check_prints_the_last_body_or_why_there_is_none(rt: HostRuntime) -> Result<(), Fail> {
     let alloc = rt.alloc();
-    let rows: [(&[u8], Status, &[u8]); 5] = [
+    let rows: [(&[u8], Status, &[u8]); 7] = [
         (ONE, Status::Done, b"versions: 1\ntext:\nhi\n"),
         (b"", Status::Done, b"versions: 0\ntext:\n\n"),
         (
             TWO,
             Status::Done,
             b"versions: 2\ntext:\na\xc3\xa9\xe2\x82\xac\xf0\x9f\x98\x80\n",
+        ),
+        (
+            b"Version:\"a\\\"1\"\r\nParents:\r\nContent-Length: 0\r\n\r\n",
+            Status::Done,
+            b"versions: 1\ntext:\n\n",
+        ),
+        (
+            b"Version: \"a\",\r\nParents:\r\nContent-Length: 0\r\n\r\n",
+            Status::Bad,
+            b"fault: NotYet\n",
         ),
         (&ONE[..48], Status::Bad, b"fault: NotYet\n"),
         (b"hi", Status::Bad, b"fault: NotYet\n"),

@@ -1,6 +1,11 @@
+pub mod Padding
+pub mod LineReading
+pub mod ListReading
+pub mod OneSet
+pub mod Results
+pub mod HeadReading
 pub mod Parents
-pub mod Heads
-pub mod ChainLemmas
+pub mod UpdateReading
 pub mod Runs
 pub mod OneReading
 pub mod InWords

@@ -1,31 +1,25 @@
 -- A chain's text, update by update.
-use Rattle.std.proofs.Common.{◌≡◌, ◌≢◌, ℕ, ◌<◌, true, ◌==◌, List, [], ◌∷◌, ◌++◌, ◌⊎◌, inl, inr, refl, ap, sym, ◌∙◌, append_assoc, append-nil, length, take, drop, length-append, arith, All, encode_utf8_all}
-use Rattle.std.proofs.lemmas.List.{append_cancel_left, append_cancel_right, take_at, drop_at}
-use Rattle.std.proofs.lemmas.List.Concat.{flat_map-append}
-use Rattle.std.proofs.lemmas.Str.{encodes_same}
+use Rattle.std.proofs.Common.{◌≡◌, ◌≢◌, ℕ, ◌<◌, Bool, true, false, ◌==◌, List, [], ◌∷◌, ◌++◌, ◌⊎◌, inl, inr, refl, ap, sym, ◌∙◌, subst, append_assoc, append-nil, length, length-append, arith, All}
+use Rattle.std.proofs.lemmas.Bool.{eqb-false}
+use Rattle.std.proofs.lemmas.List.{append_cancel_left, append_cancel_right}
 use Rattle.braid_change.specs.Updates.{UpdateView}
-use Rattle.braid_change.specs.declared.change.Change.TheVariants.{Body}
-use Rattle.braid_change.specs.Changes.{content}
-use Rattle.braid_frame.specs.Chains.{IsPlain, spelled, spelled_all, gap, last_id, IsChainFrom, IsChain, SpellsChain}
-use Rattle.braid_frame.proofs.ChainLemmas.{spelled_head, small}
-use Rattle.braid_frame.proofs.Heads.{head_same}
+use Rattle.braid_frame.specs.Fields.{Begins}
+use Rattle.braid_frame.specs.Chains.{IsPlain, SpellsUpdate, SpellsAll, gap, last_id, IsChainFrom, IsChain, SpellsChain}
+use Rattle.braid_frame.proofs.UpdateReading.{update_same, update_some}
 
 -- with a gap after each update, or without the last gap
 abbrev pub Ends : List ℕ → List UpdateView → Type 0
-Ends rest us = (rest ≡ spelled_all us) ⊎ (rest ++ gap ≡ spelled_all us)
+Ends rest us = SpellsAll us rest ⊎ SpellsAll us (rest ++ gap)
 
-record TailGap (x : UpdateView) (xs : List UpdateView) : Type 0 where
+record TailGap (bytes : List ℕ) : Type 0 where
   front : List ℕ
-  whole : spelled_all (x ∷ xs) ≡ front ++ gap
+  whole : bytes ≡ front ++ gap
 
-tail_gap : (x : UpdateView) (xs : List UpdateView) → TailGap x xs
-tail_gap x [] = record { front = spelled x; whole = append-nil (spelled x ++ gap) }
-tail_gap x (y ∷ ys) =
-    let t = tail_gap y ys in
-    record {
-      front = (spelled x ++ gap) ++ t.front;
-      whole = ap (λ z. (spelled x ++ gap) ++ z) t.whole ∙ sym (append_assoc (spelled x ++ gap) t.front gap);
-    }
+tail_gap : (x : UpdateView) (xs : List UpdateView) (bytes : List ℕ) → SpellsAll (x ∷ xs) bytes → TailGap bytes
+tail_gap x [] bytes s = record { front = s.1.front; whole = s.1.cut ∙ ap (λ z. s.1.front ++ (gap ++ z)) s.2 }
+tail_gap x (y ∷ ys) bytes s =
+    let t = tail_gap y ys s.0 s.2 in
+    record { front = s.1.front ++ (gap ++ t.front); whole = s.1.cut ∙ ap (λ z. s.1.front ++ (gap ++ z)) t.whole ∙ sym (append_assoc s.1.front (gap ++ t.front) gap) }
 
 -- what follows the first update: nothing, or a gap and the others
 pub data After (ws : List UpdateView) (front : List ℕ) : Type 0 where
@@ -34,34 +28,21 @@ pub data After (ws : List UpdateView) (front : List ℕ) : Type 0 where
 
 pub record First (w : UpdateView) (ws : List UpdateView) (rest : List ℕ) : Type 0 where
   pub front : List ℕ
-  pub whole : rest ≡ spelled w ++ front
+  pub whole : Begins (SpellsUpdate w) rest front
   pub after : After ws front
 
+cut_at : (w : UpdateView) (bytes rest : List ℕ) (s : SpellsUpdate w bytes) → (whole : List ℕ) → whole ≡ bytes ++ rest → Begins (SpellsUpdate w) whole rest
+cut_at w bytes rest s whole e = record { front = bytes; is = s; cut = e }
+
 pub first_of : (w : UpdateView) (ws : List UpdateView) (rest : List ℕ) → Ends rest (w ∷ ws) → First w ws rest
-first_of w ws rest (inl e) = record { front = gap ++ spelled_all ws; whole = e ∙ append_assoc (spelled w) gap (spelled_all ws); after = more (spelled_all ws) refl (inl refl) }
-first_of w [] rest (inr e) =
-    let k : rest ≡ spelled w = append_cancel_right _ _ gap (e ∙ append-nil (spelled w ++ gap)) in
-    record { front = []; whole = k ∙ sym (append-nil (spelled w)); after = last refl refl }
-first_of w (x ∷ xs) rest (inr e) =
-    let t = tail_gap x xs in
-    let k : rest ≡ (spelled w ++ gap) ++ t.front = append_cancel_right _ _ gap (e ∙ ap (λ z. (spelled w ++ gap) ++ z) t.whole ∙ sym (append_assoc (spelled w ++ gap) t.front gap)) in
-    record { front = gap ++ t.front; whole = k ∙ append_assoc (spelled w) gap t.front; after = more t.front refl (inr (sym t.whole)) }
-
--- lists that begin with parts of one length
-same_front : (a b x y : List ℕ) → length a ≡ length b → a ++ x ≡ b ++ y → (a ≡ b) × (x ≡ y)
-same_front a b x y l e = (sym (take_at a x (length a) refl) ∙ ap (take (length a)) e ∙ take_at b y (length a) (sym l), sym (drop_at a x (length a) refl) ∙ ap (drop (length a)) e ∙ drop_at b y (length a) (sym l))
-
--- two updates with one spelling are one
-same_update : (u w : UpdateView) → u.id ≡ w.id → u.parents ≡ w.parents → u.change ≡ w.change → u ≡ w
-same_update u w i p c = λ k. record { id = i k; parents = p k; change = c k }
-
-pub spelled_same : (u w : UpdateView) (x y : List ℕ) → IsPlain u → IsPlain w → u.parents ≡ w.parents → spelled u ++ x ≡ spelled w ++ y → (u ≡ w) × (x ≡ y)
-spelled_same u w x y pu pw e s =
-    let k = head_same w.parents u.id w.id (content u.change ++ x) (content w.change ++ y) (length (content u.change)) (length (content w.change)) pu.unquoted pw.unquoted (small u pu) (small w pw) (sym (spelled_head u x w.parents e) ∙ s ∙ spelled_head w y w.parents refl) in
-    let parts = same_front (content u.change) (content w.change) x y k.1.0 k.1.1 in
-    let texts : encode_utf8_all pu.text ≡ encode_utf8_all pw.text = sym (ap content pu.body) ∙ parts.0 ∙ ap content pw.body in
-    let changes : u.change ≡ w.change = pu.body ∙ ap Body (encodes_same pu.text pw.text texts) ∙ sym pw.body in
-    (same_update u w k.0 e changes, parts.1)
+first_of w ws rest (inl s) = record { front = gap ++ s.0; whole = s.1; after = more s.0 refl (inl s.2) }
+first_of w [] rest (inr s) =
+    let k : rest ≡ s.1.front = append_cancel_right rest s.1.front gap (s.1.cut ∙ ap (λ z. s.1.front ++ (gap ++ z)) s.2) in
+    record { front = []; whole = cut_at w s.1.front [] s.1.is rest (k ∙ sym (append-nil s.1.front)); after = last refl refl }
+first_of w (x ∷ xs) rest (inr s) =
+    let t = tail_gap x xs s.0 s.2 in
+    let k : rest ≡ s.1.front ++ (gap ++ t.front) = append_cancel_right rest (s.1.front ++ (gap ++ t.front)) gap (s.1.cut ∙ ap (λ z. s.1.front ++ (gap ++ z)) t.whole ∙ sym (append_assoc s.1.front (gap ++ t.front) gap)) in
+    record { front = gap ++ t.front; whole = cut_at w s.1.front (gap ++ t.front) s.1.is rest k; after = more t.front refl (inr (subst (SpellsAll (x ∷ xs)) t.whole s.2)) }
 
 -- vs goes on from the updates so far, and what is left spells the others
 pub record Goes (us : List UpdateView) (rest : List ℕ) (vs : List UpdateView) : Type 0 where
@@ -72,14 +53,14 @@ pub record Goes (us : List UpdateView) (rest : List ℕ) (vs : List UpdateView) 
 
 pub record Progress (us : List UpdateView) (rest bytes : List ℕ) : Type 0 where
   pub chain : IsChain us
-  pub sound : (bytes ≡ spelled_all us ++ rest) ⊎ ((rest ≡ []) × (bytes ++ gap ≡ spelled_all us))
+  pub sound : ((front : List ℕ) × SpellsAll us front × (bytes ≡ front ++ rest)) ⊎ ((rest ≡ []) × SpellsAll us (bytes ++ gap))
   pub complete : (vs : List UpdateView) → SpellsChain vs bytes → Goes us rest vs
 
 pub progress_start : (bytes : List ℕ) → Progress [] bytes bytes
 progress_start bytes =
     record {
       chain = tt;
-      sound = inl refl;
+      sound = inl ([], refl, refl);
       complete = λ vs s. record { more = vs; is = refl; chain = s.chain; ends = s.spelled };
     }
 
@@ -87,7 +68,7 @@ pub progress_end : (us : List UpdateView) (rest bytes : List ℕ) → rest ≡ [
 progress_end us rest bytes e p =
     record {
       chain = p.chain;
-      spelled = elim p.sound [ inl s ↦ inl (s ∙ ap (λ r. spelled_all us ++ r) e ∙ append-nil (spelled_all us)) | inr s ↦ inr s.1 ];
+      spelled = elim p.sound [ inl s ↦ inl (subst (SpellsAll us) (sym (s.2 ∙ ap (λ r. s.0 ++ r) e ∙ append-nil s.0)) s.1) | inr s ↦ inr s.1 ];
     }
 
 -- what a chain's text has next, where something is left
@@ -110,7 +91,7 @@ next us rest bytes vs l p s = let g = p.complete vs s in next_of us rest vs g.mo
 pub record Read (us : List UpdateView) (u : UpdateView) (rest end : List ℕ) : Type 0 where
   pub plain : IsPlain u
   pub parents : u.parents ≡ last_id us
-  pub whole : rest ≡ spelled u ++ end
+  pub whole : Begins (SpellsUpdate u) rest end
 
 pub record Follows (us : List UpdateView) (u : UpdateView) (end : List ℕ) (vs : List UpdateView) : Type 0 where
   pub others : List UpdateView
@@ -121,7 +102,7 @@ pub record Follows (us : List UpdateView) (u : UpdateView) (end : List ℕ) (vs 
 pub follows : (us : List UpdateView) (u : UpdateView) (rest end bytes : List ℕ) (vs : List UpdateView) → 0 < length rest → Progress us rest bytes → Read us u rest end → SpellsChain vs bytes → Follows us u end vs
 follows us u rest end bytes vs l p r s =
     let n = next us rest bytes vs l p s in
-    let k = spelled_same u n.head end n.first.front r.plain n.chain.0 (r.parents ∙ sym n.chain.1) (sym r.whole ∙ n.first.whole) in
+    let k = update_same u n.head rest end n.first.front r.plain n.chain.0 (r.parents ∙ sym n.chain.1) r.whole n.first.whole in
     record {
       others = n.others;
       is = n.is ∙ ap (λ w. us ++ w ∷ n.others) (sym k.0);
@@ -134,7 +115,7 @@ pub goes_end : (us : List UpdateView) (u : UpdateView) (vs : List UpdateView) �
 goes_end us u vs f = go f.others f.is f.chain f.after
   where
     go : (ws : List UpdateView) → vs ≡ us ++ u ∷ ws → IsChainFrom us (u ∷ ws) → After ws [] → Goes (us ++ u ∷ []) [] vs
-    go ws i c (last e n) = record { more = ws; is = i ∙ sym (append_assoc us (u ∷ []) ws); chain = c.3; ends = inl (sym (ap spelled_all n)) }
+    go ws i c (last e n) = record { more = ws; is = i ∙ sym (append_assoc us (u ∷ []) ws); chain = c.3; ends = inl (rw n refl) }
     go ws i c (more r e n) = let k = ap length e in absurd (omega (arith, k, length-append gap r))
 
 -- after the update a gap and more is left
@@ -161,17 +142,19 @@ chain_push earlier (w ∷ us) u c p e a =
     let same : (earlier ++ w ∷ []) ++ us ≡ earlier ++ w ∷ us = append_assoc earlier (w ∷ []) us in
     (c.0, c.1, c.2, chain_push (earlier ++ w ∷ []) us u c.3 p (rw same e) (rw same a))
 
-spelled_push : (us : List UpdateView) (u : UpdateView) → spelled_all (us ++ u ∷ []) ≡ spelled_all us ++ (spelled u ++ gap)
-spelled_push us u = flat_map-append (λ v. spelled v ++ gap) us (u ∷ []) ∙ ap (λ z. spelled_all us ++ z) (append-nil (spelled u ++ gap))
+spelled_push : (us : List UpdateView) (u : UpdateView) (front first : List ℕ) → SpellsAll us front → SpellsUpdate u first → SpellsAll (us ++ u ∷ []) (front ++ (first ++ gap))
+spelled_push [] u front first s t = ([], cut_at u first gap t (front ++ (first ++ gap)) (ap (λ z. z ++ (first ++ gap)) s), refl)
+spelled_push (w ∷ us) u front first s t =
+    (s.0 ++ (first ++ gap), cut_at w s.1.front (gap ++ (s.0 ++ (first ++ gap))) s.1.is (front ++ (first ++ gap)) (ap (λ z. z ++ (first ++ gap)) s.1.cut ∙ append_assoc s.1.front (gap ++ s.0) (first ++ gap)), spelled_push us u s.0 first s.2 t)
 
 pub shorter : (us : List UpdateView) (u : UpdateView) (rest end : List ℕ) → Read us u rest end → length end < length rest
-shorter us u rest end r = omega (arith, ap length r.whole, length-append (spelled u) end)
+shorter us u rest end r = update_some u rest end r.whole
 
-pub read_of : (us seen : List UpdateView) (u : UpdateView) (parents : List (List ℕ)) (rest end : List ℕ) → seen ≡ us → parents ≡ last_id seen → IsPlain u × (u.parents ≡ parents) × (rest ≡ spelled u ++ end) → Read us u rest end
+pub read_of : (us seen : List UpdateView) (u : UpdateView) (parents : List (List ℕ)) (rest end : List ℕ) → seen ≡ us → parents ≡ last_id seen → IsPlain u × (u.parents ≡ parents) × Begins (SpellsUpdate u) rest end → Read us u rest end
 read_of us seen u parents rest end s p f = record { plain = f.0; parents = f.1 ∙ p ∙ ap last_id s; whole = f.2 }
 
 -- nothing that the bytes spell begins so
-pub no_update : (us seen : List UpdateView) (parents : List (List ℕ)) (rest bytes : List ℕ) (vs : List UpdateView) → 0 < length rest → Progress us rest bytes → SpellsChain vs bytes → seen ≡ us → parents ≡ last_id seen → ((u : UpdateView) (end : List ℕ) → IsPlain u → u.parents ≡ parents → rest ≢ spelled u ++ end) → ⊥
+pub no_update : (us seen : List UpdateView) (parents : List (List ℕ)) (rest bytes : List ℕ) (vs : List UpdateView) → 0 < length rest → Progress us rest bytes → SpellsChain vs bytes → seen ≡ us → parents ≡ last_id seen → ((u : UpdateView) (end : List ℕ) → IsPlain u → u.parents ≡ parents → Begins (SpellsUpdate u) rest end → ⊥) → ⊥
 no_update us seen parents rest bytes vs l p s same e none =
     let n = next us rest bytes vs l p s in
     none n.head n.first.front n.chain.0 (n.chain.1 ∙ sym (e ∙ ap last_id same)) n.first.whole
@@ -182,7 +165,8 @@ progress_last us u rest bytes l p r a =
     record {
       chain = chain_push [] us u p.chain r.plain r.parents a;
       sound = elim p.sound [
-        | inl s ↦ inr (refl, ap (λ z. z ++ gap) (s ∙ ap (λ z. spelled_all us ++ z) (r.whole ∙ append-nil (spelled u))) ∙ append_assoc (spelled_all us) (spelled u) gap ∙ sym (spelled_push us u))
+        | inl s ↦ (let f = r.whole.front in
+            inr (refl, subst (SpellsAll (us ++ u ∷ [])) (sym (ap (λ z. z ++ gap) (s.2 ∙ ap (λ z. s.0 ++ z) (r.whole.cut ∙ append-nil f)) ∙ append_assoc s.0 f gap)) (spelled_push us u s.0 f s.1 r.whole.is)))
         | inr s ↦ let k = ap length s.0 in absurd (omega (arith, l, k))
       ];
       complete = λ vs s. goes_end us u vs (follows us u rest [] bytes vs l p r s);
@@ -194,7 +178,8 @@ progress_more us u rest next bytes l p r a =
     record {
       chain = chain_push [] us u p.chain r.plain r.parents a;
       sound = elim p.sound [
-        | inl s ↦ inl (s ∙ ap (λ z. spelled_all us ++ z) (r.whole ∙ sym (append_assoc (spelled u) gap next)) ∙ sym (append_assoc (spelled_all us) (spelled u ++ gap) next) ∙ ap (λ z. z ++ next) (sym (spelled_push us u)))
+        | inl s ↦ (let f = r.whole.front in
+            inl (s.0 ++ (f ++ gap), spelled_push us u s.0 f s.1 r.whole.is, s.2 ∙ ap (λ z. s.0 ++ z) (r.whole.cut ∙ sym (append_assoc f gap next)) ∙ sym (append_assoc s.0 (f ++ gap) next)))
         | inr s ↦ let k = ap length s.0 in absurd (omega (arith, l, k))
       ];
       complete = λ vs s. goes_on us u next vs (follows us u rest (gap ++ next) bytes vs l p r s);
@@ -214,3 +199,6 @@ pub step_more : (us items : List UpdateView) (u : UpdateView) (rest end after ne
 step_more us items u rest end after next bytes l p r a i n e =
     let read : Read us u rest (gap ++ after) = rw e at r in
     rw (i, n) (progress_more us u rest after bytes l p read a)
+
+pub some_left : (rest : List ℕ) (empty : Bool) → empty ≡ false → empty ≡ (length rest == 0) → 0 < length rest
+some_left rest empty e f = let some = eqb-false (length rest) 0 (sym f ∙ e) in omega (arith, some)

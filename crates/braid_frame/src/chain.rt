@@ -1,24 +1,17 @@
-ghost use Rattle.std.specs.Prelude.{◌≡◌, ◌≢◌, ◌≤◌, ◌++◌, List, ℕ, length, IfOk, IfErr, IsErrOf, IsTrue, All, ◌↔◌};
+ghost use Rattle.std.specs.Prelude.{◌≡◌, ◌≢◌, ◌≤◌, List, ℕ, length, IfOk, IfErr, IsErrOf, IsTrue, All, ◌↔◌};
 ghost use Rattle.braid_change.specs.Updates.{UpdateView};
-ghost use Rattle.braid_frame.specs.Chains.{IsPlain, spelled, SpellsChain, IsChainText, IsChainFault, last_id};
+ghost use Rattle.braid_frame.specs.Fields.{Begins};
+ghost use Rattle.braid_frame.specs.Chains.{IsPlain, SpellsUpdate, SpellsChain, IsChainText, IsChainFault, last_id};
 
-use crate::lines::head;
+use crate::fault::ChainFault;
+use crate::heads::head;
 use braid_change::{Change, Text, TextFault, Update};
-use braid_ids::{Frontier, Id, IdFault, Memory, after, split_at_byte};
+use braid_ids::{Frontier, Id, Memory, after};
 use std::alloc::Global;
 
 const MOST_BYTES: usize = 16_777_216;
 
 const LONGEST_CONTENT: u64 = 1_048_576;
-
-/// Why there is no chain.
-#[derive(Clone, Copy, Debug, PartialEq, Eq)]
-pub enum ChainFault {
-    /// The bytes are no chain text: what they are is not read yet.
-    NotYet,
-    /// There was no memory for the updates.
-    Memory,
-}
 
 /// Reads the chain that all of the bytes spell: its updates, in their order.
 ///
@@ -79,23 +72,17 @@ fn read_update(
     bytes: &[u8],
 ) -> Result<(Update, &[u8]), ChainFault>
     requires { length parents ≤ 1 }
-    ensures found { IfOk result (λ found. IsPlain found.0 × (found.0.parents ≡ parents) × (bytes.now ≡ spelled found.0 ++ found.1.now)) }
-    ensures not_yet { IsErrOf result ChainFault.NotYet → (u : UpdateView) (rest : List ℕ) → IsPlain u → u.parents ≡ parents → bytes.now ≢ spelled u ++ rest }
+    ensures found { IfOk result (λ found. IsPlain found.0 × (found.0.parents ≡ parents) × Begins (SpellsUpdate found.0) bytes.now found.1.now) }
+    ensures not_yet { IsErrOf result ChainFault.NotYet → (u : UpdateView) (rest : List ℕ) → IsPlain u → u.parents ≡ parents → Begins (SpellsUpdate u) bytes.now rest → ⊥ }
 {
-    let Some((id, len, body)) = head(&parents, bytes) else {
-        return Err(ChainFault::NotYet);
+    let (id, len, body) = match head(alloc, &parents, bytes) {
+        Ok(found) => found,
+        Err(fault) => return Err(fault),
     };
     if len > LONGEST_CONTENT || len > body.len() as u64 {
         return Err(ChainFault::NotYet);
     }
-    if let Some(_) = split_at_byte(b'\\', id) {
-        return Err(ChainFault::NotYet);
-    }
     let (content, rest) = body.split_at(len as usize);
-    let id = match Id::read(alloc, id) {
-        Ok(id) => id,
-        Err(fault) => return Err(id_fault(fault)),
-    };
     let text = match Text::read(alloc, content) {
         Ok(text) => text,
         Err(TextFault::Memory) => return Err(ChainFault::Memory),
@@ -104,16 +91,6 @@ fn read_update(
     match Update::build(id, parents, Change::Body(text)) {
         Ok(update) => Ok((update, rest)),
         Err(_) => Err(ChainFault::NotYet),
-    }
-}
-
-/// What a fault of an identifier is for a chain.
-fn id_fault(fault: IdFault) -> ChainFault
-    ensures { result ≡ ChainFault.NotYet → fault ≢ IdFault.Memory }
-{
-    match fault {
-        IdFault::Memory => ChainFault::Memory,
-        IdFault::Empty | IdFault::TooLong { .. } | IdFault::BadByte { .. } => ChainFault::NotYet,
     }
 }
 

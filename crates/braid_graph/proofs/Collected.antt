@@ -1,15 +1,14 @@
 -- The list of the identifiers that are no entry's parent, as it is collected from the newest to the oldest.
 use Rattle.std.proofs.Common.{◌≡◌, ◌↔◌, ℕ, ◌+◌, ◌<◌, ◌≤◌, List, [], ◌∷◌, ◌++◌, Bool, true, false, cond, length, map, take, drop, reverse, slice_get, Option, Some, None, Result, Ok, Err, IfOk, zero, suc, arith, refl, sym, ap, subst, ◌∙◌, inl, inr, ◌⊎◌, length-append}
 use Rattle.std.specs.List.{Contains, filter, count_by}
-use Rattle.std.specs.Option.{option_map}
 use Rattle.std.proofs.lemmas.Option.{none-some, same_Some, slice_get_within, get_or_from_slice_get}
 use Rattle.std.proofs.lemmas.List.{drop_more, drop_all, reverse-append, length-reverse, take-append-drop, nil_from_length, length-map}
 use Rattle.std.proofs.lemmas.List.Elements.{filter-append}
 use Rattle.std.proofs.lemmas.List.Sums.{length-filter, count_by-le-length}
 use Rattle.std.proofs.lemmas.List.Sorted.{IsPermutation-reverse, IsPermutation-sym, Contains-permutation}
 use Rattle.braid_ids.specs.Frontiers.{IsRising}
-use Rattle.braid_graph.specs.Entries.{GraphEntry, ids_of, Holds, IsHistoryGraph}
-use Rattle.braid_graph.specs.Frontiers.{IsParent, IsFrontierOf, is_head, heads_of, frontier_of}
+use Rattle.braid_graph.specs.Entries.{GraphEntry, ids_of}
+use Rattle.braid_graph.specs.Frontiers.{IsFrontierOf, is_head, heads_of}
 use Rattle.braid_graph.specs.Inside.{entries_in, IsKept}
 use Rattle.braid_graph.specs.declared.links.Links.{Links}
 use Rattle.braid_graph.proofs.Frontiers.{head_found, head_there, fold-map}

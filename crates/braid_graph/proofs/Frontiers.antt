@@ -1,10 +1,10 @@
 -- The frontier as a list is the set of the identifiers that are no entry's parent, and as long as there are of them.
-use Rattle.std.proofs.Common.{◌≡◌, ◌↔◌, ℕ, ◌+◌, List, [], ◌∷◌, Bool, true, false, cond, length, map, slice_get, Some, zero, suc, arith, refl, sym, ap, subst, ◌∙◌, inl, inr, ◌⊎◌}
+use Rattle.std.proofs.Common.{◌≡◌, ℕ, ◌+◌, List, [], ◌∷◌, Bool, true, false, cond, length, map, slice_get, Some, zero, suc, arith, refl, sym, subst, ◌∙◌, inl, inr, ◌⊎◌}
 use Rattle.std.specs.List.{Contains, filter, fold, count_by}
 use Rattle.std.proofs.lemmas.List.Sums.{length-filter}
 use Rattle.braid_ids.proofs.Rising.{rising_same}
 use Rattle.braid_graph.specs.Entries.{GraphEntry, ids_of, Holds, IsHistoryGraph, SameEntries}
-use Rattle.braid_graph.specs.Frontiers.{IsParent, IsFrontierOf, is_head, heads_of, rising_ids, frontier_of}
+use Rattle.braid_graph.specs.Frontiers.{IsParent, IsFrontierOf, is_head, heads_of, frontier_of}
 use Rattle.braid_graph.proofs.Members.{Member, contains_member, member_contains, place_of}
 use Rattle.braid_graph.proofs.Newest.{entry_id, id_entry, one_number}
 use Rattle.braid_graph.proofs.Flags.{head_no_parent, no_parent_head}

@@ -1,6 +1,6 @@
 -- What a graph keeps beside its entries, at one entry and after one more.
-use Rattle.std.proofs.Common.{◌≡◌, ℕ, ◌+◌, ◌<◌, ◌≤◌, List, [], ◌∷◌, ◌++◌, Bool, true, false, length, map, max, take, nat_eq, if◌then◌else◌, slice_get, Option, Some, None, zero, suc, arith, refl, sym, ap, subst, ◌∙◌, inl, inr, ◌⊎◌}
-use Rattle.std.specs.List.{Contains, All, AllByRecursion, AllZip, count_by}
+use Rattle.std.proofs.Common.{◌≡◌, ℕ, ◌+◌, ◌<◌, ◌≤◌, List, [], ◌∷◌, ◌++◌, Bool, true, false, length, max, take, nat_eq, if◌then◌else◌, slice_get, Option, Some, None, zero, suc, arith, refl, sym, ap, subst, ◌∙◌, inl, inr}
+use Rattle.std.specs.List.{All, AllByRecursion, AllZip, count_by}
 use Rattle.std.specs.Cmp.Lexicographic.{pointwise, pointwise_decides}
 use Rattle.std.proofs.lemmas.Bool.Decides.{Decides-eqb, nat_tests}
 use Rattle.std.proofs.lemmas.List.Elements.{All-from_recursion}
@@ -12,10 +12,10 @@ use Rattle.std.proofs.lemmas.Option.{none-some, same_Some, slice_get_within, get
 use Rattle.std.proofs.lemmas.Slice.Zip.{all_zipped_more}
 use Rattle.braid_graph.specs.Entries.{GraphEntry, ids_of, Holds, HoldsAll, IsHistoryGraph}
 use Rattle.braid_graph.specs.Levels.{greatest_by, level_of}
-use Rattle.braid_graph.specs.Frontiers.{IsParent, is_head, frontier_of}
+use Rattle.braid_graph.specs.Frontiers.{is_head, frontier_of}
 use Rattle.braid_graph.specs.Inside.{entries_in, IsNumberOf, IsLinked, IsKept, cleared}
 use Rattle.braid_graph.specs.declared.links.Links.{Links}
-use Rattle.braid_graph.proofs.Members.{Member, contains_member, member_contains, kept_place, no_gap}
+use Rattle.braid_graph.proofs.Members.{Member, member_contains, kept_place, no_gap}
 use Rattle.braid_graph.proofs.Newest.{entry_id, entry_at, history_push, parents_held}
 use Rattle.braid_graph.proofs.Levels.{greatest_push, level_push, level_pushed, level_length}
 use Rattle.braid_graph.proofs.Flags.{no_parent_head, heads_push}

@@ -1,15 +1,15 @@
 -- The level of an entry is 1 plus the greatest of its parents' levels, and above the levels of its ancestry.
-use Rattle.std.proofs.Common.{◌≡◌, ◌≢◌, ℕ, ◌+◌, ◌<◌, ◌≤◌, List, [], ◌∷◌, ◌++◌, Bool, true, false, cond, length, reverse, max, arith, refl, sym, ap, subst, ◌∙◌, inl, inr, ◌⊎◌}
+use Rattle.std.proofs.Common.{◌≡◌, ℕ, ◌+◌, ◌<◌, ◌≤◌, List, [], ◌∷◌, ◌++◌, Bool, true, false, cond, length, reverse, max, arith, refl, sym, ap, subst, ◌∙◌, inl, inr, ◌⊎◌}
 use Rattle.std.specs.Ordering.{is_eq}
 use Rattle.std.specs.List.{Contains}
-use Rattle.std.proofs.lemmas.List.{reverse-append, reverse-reverse, length-reverse}
+use Rattle.std.proofs.lemmas.List.{reverse-append, length-reverse}
 use Rattle.braid_ids.specs.Identifiers.{id_cmp}
-use Rattle.braid_graph.specs.Entries.{GraphEntry, ids_of, Holds, HoldsAll, IsHistoryGraph, SameEntries}
+use Rattle.braid_graph.specs.Entries.{GraphEntry, ids_of, Holds, IsHistoryGraph, SameEntries}
 use Rattle.braid_graph.specs.Ancestries.{IsAncestor, named, parent}
 use Rattle.braid_graph.specs.Levels.{greatest_by, level_in, level_of}
 use Rattle.braid_graph.proofs.Members.{Member, contains_member, member_contains, member_reverse, member_from_reverse}
 use Rattle.braid_graph.proofs.Ids.{same_or_not, eq_itself, member_or_not}
-use Rattle.braid_graph.proofs.Newest.{IsNewestFirst, entry_id, id_entry, newest_first, held_parents, ids_reverse, ids_from_reverse}
+use Rattle.braid_graph.proofs.Newest.{IsNewestFirst, entry_id, id_entry, newest_first, held_parents, ids_from_reverse}
 
 pub greatest_agree : (f g : List ℕ → ℕ) (F : List (List ℕ)) → ((v : List ℕ) → Member v F → f v ≡ g v) → greatest_by f F ≡ greatest_by g F
 greatest_agree f g [] h = refl

@@ -1,5 +1,5 @@
 -- Arrival numbers, as the map of the entries gives them.
-use Rattle.std.proofs.Common.{◌≡◌, ℕ, ◌<◌, ◌≤◌, List, [], ◌∷◌, ◌++◌, Bool, true, false, cond, ltb, length, map, get_or, slice_get, position, Option, Some, None, arith, nat_eq, refl, sym, ap, subst, ◌∙◌, inl, inr, ◌⊎◌}
+use Rattle.std.proofs.Common.{◌≡◌, ℕ, ◌≤◌, List, [], ◌∷◌, Bool, true, false, cond, ltb, length, get_or, slice_get, position, Some, None, arith, nat_eq, refl, sym, ap, subst, ◌∙◌}
 use Rattle.std.specs.List.{Contains, position_or_len}
 use Rattle.std.specs.Map.{keys_of}
 use Rattle.std.specs.Cmp.Lexicographic.{pointwise, pointwise_decides}
@@ -7,7 +7,7 @@ use Rattle.std.proofs.lemmas.Bool.Decides.{Decides-eqb, nat_tests}
 use Rattle.std.proofs.lemmas.List.Quantifiers.{position-Some}
 use Rattle.std.proofs.lemmas.List.Sums.{fails_before_first}
 use Rattle.std.proofs.lemmas.Option.{slice_get-get_or}
-use Rattle.braid_graph.specs.Entries.{GraphEntry, ids_of, Holds}
+use Rattle.braid_graph.specs.Entries.{ids_of, Holds}
 use Rattle.braid_graph.specs.Inside.{entries_in}
 
 pub ids_of-entries_in : (ps : List (List ℕ × List (List ℕ))) → ids_of (entries_in ps) ≡ keys_of ps

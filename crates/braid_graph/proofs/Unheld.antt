@@ -1,6 +1,5 @@
 -- The least identifier that no entry has, of more and more identifiers.
-use Rattle.std.proofs.Common.{◌≡◌, ◌≢◌, ◌↔◌, ℕ, ◌+◌, ◌<◌, ◌≤◌, List, [], ◌∷◌, ◌++◌, Bool, true, false, cond, length, take, slice_get, Option, Some, None, is_some, not, IfNone, IfSome, arith, refl, sym, ap, subst, ◌∙◌, inl, inr, ◌⊎◌, Less, Equal, Greater, Ordering}
-use Rattle.std.specs.List.{Contains}
+use Rattle.std.proofs.Common.{◌≡◌, ◌≢◌, ℕ, ◌+◌, ◌≤◌, List, [], ◌∷◌, ◌++◌, Bool, true, false, cond, length, take, slice_get, Option, Some, None, is_some, not, IfNone, IfSome, refl, sym, ap, subst, ◌∙◌, inl, inr, Less, Equal, Greater, Ordering}
 use Rattle.std.specs.Ordering.{is_lt, ordering_reverse}
 use Rattle.std.proofs.lemmas.Cmp.{nat_list_cmp_total}
 use Rattle.std.proofs.lemmas.List.{take_all}

@@ -1,11 +1,11 @@
 -- The walk from the newest entry to the oldest finds exactly the ancestry.
-use Rattle.std.proofs.Common.{◌≡◌, ◌≢◌, ◌↔◌, ℕ, List, [], ◌∷◌, ◌++◌, Bool, true, false, cond, reverse, refl, sym, ap, subst, ◌∙◌, inl, inr, ◌⊎◌}
+use Rattle.std.proofs.Common.{◌≡◌, ℕ, List, [], ◌∷◌, ◌++◌, Bool, true, false, cond, reverse, refl, sym, subst, inl, inr, ◌⊎◌}
 use Rattle.std.specs.List.{Contains}
-use Rattle.braid_graph.specs.Entries.{GraphEntry, ids_of, Holds, HoldsAll, IsHistoryGraph, SameEntries, has_id}
+use Rattle.braid_graph.specs.Entries.{GraphEntry, ids_of, Holds, HoldsAll, IsHistoryGraph, has_id}
 use Rattle.braid_graph.specs.Ancestries.{IsAncestor, named, parent, IsClosed, IsAncestry, ancestry_in, ancestry_of}
 use Rattle.braid_graph.proofs.Members.{Member, contains_member, member_contains, member_append_left, member_append_right, member_append_cases, member_reverse, member_from_reverse}
 use Rattle.braid_graph.proofs.Ids.{id_member, member_id}
-use Rattle.braid_graph.proofs.Newest.{IsNewestFirst, entry_id, newest_first, held_parents, ids_reverse, parents_held}
+use Rattle.braid_graph.proofs.Newest.{IsNewestFirst, entry_id, newest_first, ids_reverse, parents_held}
 
 -- the ancestry speaks of the entries alone, in whatever order they are
 pub same_ancestry : (es fs : List GraphEntry) → ((e : GraphEntry) → Contains es e → Contains fs e) → (F : List (List ℕ)) (v : List ℕ) → IsAncestor es F v → IsAncestor fs F v

@@ -1,6 +1,5 @@
 -- The ancestry of a frontier: the least set with its members and each parent of a member.
 use Rattle.std.specs.Prelude.{◌≡◌, ◌≢◌, ◌↔◌, ℕ, List, [], ◌∷◌, ◌++◌, Bool, Some, if◌then◌else◌, length, reverse, slice_get, Contains}
-use Rattle.std.specs.declared.cmp.Ordering.{Ordering}
 use Rattle.std.specs.declared.cmp.Ordering.TheVariants.{Greater}
 use Rattle.braid_ids.specs.Identifiers.{id_cmp}
 use Rattle.braid_ids.specs.MarkSets.{IsMarked}

@@ -141,97 +141,128 @@ fn covers(
     }
 }
 
-#[test]
-fn a_diamond_joins_its_branches(rt: HostRuntime) -> Result<(), Fail> {
-    let alloc = rt.alloc();
-    let mut graph = Graph::new(alloc);
-    assert!(rt; has_frontier(alloc, &graph, "")?);
-    assert!(rt; is_ancestry(alloc, &graph, "", "")?);
-    assert_eq!(rt; put(alloc, &mut graph, "a-1", "")?, 0);
-    assert_eq!(rt; put(alloc, &mut graph, "b-1", "a-1")?, 1);
-    assert_eq!(rt; put(alloc, &mut graph, "c-1", "a-1")?, 2);
-    assert!(rt; has_frontier(alloc, &graph, "c-1 b-1")?);
-    assert_eq!(rt; put(alloc, &mut graph, "d-1", "c-1 b-1 c-1")?, 3);
-    assert!(rt; has_frontier(alloc, &graph, "d-1")?);
-    let Some((id, parents)) = graph.at(3) else {
-        return Err("no entry".into());
-    };
-    assert!(rt; id.bytes() == b"d-1".as_slice());
-    assert_eq!(rt; parents.len(), 2);
-    Ok(())
+/// Fails where something does not hold.
+fn check(holds: bool, what: &'static str) -> Result<(), Fail> {
+    if holds { Ok(()) } else { Err(what.into()) }
+}
+
+/// Whether each line's version has its level and its own ancestry.
+fn check_lines(alloc: Global, graph: &Graph, lines: &str) -> Result<(), Fail> {
+    for line in lines.lines() {
+        let Some((name, level, digits, _)) = parts(line) else {
+            return Err("not four parts".into());
+        };
+        let found = level_of(alloc, graph, name)?;
+        check(level.parse::<u32>() == Ok(found), "a level")?;
+        check(is_ancestry(alloc, graph, name, digits)?, "an ancestry")?;
+    }
+    check(
+        has_frontier(alloc, graph, "a-1 b-1 c-1 e-1 f-1 g-1")?,
+        "the frontier",
+    )
 }
 
 #[test]
 fn levels_and_ancestries_are_those_of_any_order(rt: HostRuntime) -> Result<(), Fail> {
     let alloc = rt.alloc();
-    for lines in [VERSIONS, REORDERED] {
-        let graph = graph_of(alloc, lines)?;
-        for line in lines.lines() {
-            let Some((name, level, digits, _)) = parts(line) else {
-                return Err("not four parts".into());
-            };
-            let found = level_of(alloc, &graph, name)?;
-            assert!(rt; level.parse::<u32>() == Ok(found), "level of {name}");
-            assert!(rt;
-                is_ancestry(alloc, &graph, name, digits)?,
-                "ancestry of {name}"
-            );
-        }
-        assert!(rt; has_frontier(alloc, &graph, "a-1 b-1 c-1 e-1 f-1 g-1")?);
-    }
     let graph = graph_of(alloc, VERSIONS)?;
-    assert!(rt; is_ancestry(alloc, &graph, "c-1 l-1 d-1 l-1", "111000000010")?);
+    let reordered = graph_of(alloc, REORDERED)?;
+    check_lines(alloc, &graph, VERSIONS)?;
+    check_lines(alloc, &reordered, REORDERED)
+}
+
+/// A fork and its join.
+fn check_diamond(alloc: Global, graph: &mut Graph) -> Result<(), Fail> {
+    check(has_frontier(alloc, graph, "")?, "no entry")?;
+    check(put(alloc, graph, "a-1", "")? == 0, "the first number")?;
+    put(alloc, graph, "b-1", "a-1")?;
+    put(alloc, graph, "c-1", "a-1")?;
+    check(has_frontier(alloc, graph, "c-1 b-1")?, "the fork")?;
+    check(
+        put(alloc, graph, "d-1", "c-1 b-1 c-1")? == 3,
+        "the last number",
+    )?;
+    check(has_frontier(alloc, graph, "d-1")?, "the join")?;
+    let Some((id, parents)) = graph.at(3) else {
+        return Err("no entry".into());
+    };
+    check(
+        id.bytes() == b"d-1".as_slice() && parents.len() == 2,
+        "the entry",
+    )
+}
+
+#[test]
+fn a_diamond_joins_its_branches(rt: HostRuntime) -> Result<(), Fail> {
+    let mut graph = Graph::new(rt.alloc());
+    check_diamond(rt.alloc(), &mut graph)
+}
+
+/// Frontiers with their answers, a line each: the upper, the lower, and a yes, a no or the least unknown identifier.
+const COVERS: &str = "\
+||yes
+|h-1|no
+h-1||yes
+f-1|d-1 h-1 i-1 k-1|yes
+f-1|d-1 h-1 j-1|no
+f-1 j-1 f-1|d-1 h-1 j-1|yes
+b-1|c-1 h-1|no
+b-1|h-1 y-1 x-1|x-1
+z-1 y-1 b-1|h-1|y-1
+z-1|h-1 x-1|x-1
+b-0 z-1|h-1 x-1|b-0
+";
+
+/// Whether each line has its answer.
+fn check_covers(alloc: Global, graph: &Graph) -> Result<(), Fail> {
+    for line in COVERS.lines() {
+        let Some((upper, rest)) = line.split_once('|') else {
+            return Err("not three parts".into());
+        };
+        let Some((lower, answer)) = rest.split_once('|') else {
+            return Err("not three parts".into());
+        };
+        check(covers(alloc, graph, upper, lower, answer)?, "an answer")?;
+    }
     Ok(())
 }
 
 #[test]
 fn covers_looks_at_all_members(rt: HostRuntime) -> Result<(), Fail> {
-    let alloc = rt.alloc();
-    let graph = graph_of(alloc, VERSIONS)?;
-    for (upper, lower, answer) in [
-        ("", "", "yes"),
-        ("", "h-1", "no"),
-        ("h-1", "", "yes"),
-        ("f-1", "d-1 h-1 i-1 k-1", "yes"),
-        ("f-1", "d-1 h-1 j-1", "no"),
-        ("f-1 j-1", "d-1 h-1 j-1", "yes"),
-        ("b-1", "c-1 h-1", "no"),
-        ("b-1", "h-1 y-1 x-1", "x-1"),
-        ("z-1 y-1 b-1", "h-1", "y-1"),
-        ("z-1", "h-1 x-1", "x-1"),
-        ("b-0 z-1", "h-1 x-1", "b-0"),
-    ] {
-        assert!(rt;
-            covers(alloc, &graph, upper, lower, answer)?,
-            "{upper} over {lower}"
-        );
+    let graph = graph_of(rt.alloc(), VERSIONS)?;
+    check_covers(rt.alloc(), &graph)
+}
+
+/// A chain of 100,000 versions, each with the one before it as its parent.
+fn put_chain(alloc: Global, graph: &mut Graph) -> Result<(), Fail> {
+    put(alloc, graph, "0", "")?;
+    for n in 1..100_000u32 {
+        let name = format!(in alloc; "{n}")?;
+        let parent = format!(in alloc; "{}", n - 1)?;
+        put(alloc, graph, name.as_str(), parent.as_str())?;
     }
-    let Err(Unknown::Id { id }) = graph.ancestry(alloc, &frontier_of(alloc, "b-1 z-1 x-1")?) else {
-        return Err("all are known".into());
-    };
-    assert!(rt; id.bytes() == b"x-1".as_slice());
     Ok(())
+}
+
+/// Whether the newest version has all others in its ancestry.
+fn check_chain(alloc: Global, graph: &Graph) -> Result<(), Fail> {
+    check(has_frontier(alloc, graph, "99999")?, "the frontier")?;
+    check(level_of(alloc, graph, "99999")? == 100_000, "the level")?;
+    let newest = frontier_of(alloc, "99999")?;
+    let Ok(marks) = graph.ancestry(alloc, &newest) else {
+        return Err("no ancestry".into());
+    };
+    for n in 0..100_000 {
+        if !marks.has(n) {
+            return Err("an ancestor is left out".into());
+        }
+    }
+    check(marks.size() == 100_000, "the size")
 }
 
 #[test]
 fn a_long_chain_is_walked_to_its_root(rt: HostRuntime) -> Result<(), Fail> {
-    let alloc = rt.alloc();
-    let mut graph = Graph::new(alloc);
-    put(alloc, &mut graph, "0", "")?;
-    for n in 1..100_000u32 {
-        let name = format!(in alloc; "{n}")?;
-        let parent = format!(in alloc; "{}", n - 1)?;
-        put(alloc, &mut graph, name.as_str(), parent.as_str())?;
-    }
-    assert!(rt; has_frontier(alloc, &graph, "99999")?);
-    assert_eq!(rt; level_of(alloc, &graph, "99999")?, 100_000);
-    let Ok(marks) = graph.ancestry(alloc, &frontier_of(alloc, "99999")?) else {
-        return Err("no ancestry".into());
-    };
-    for n in 0..100_000 {
-        assert!(rt; marks.has(n));
-    }
-    assert!(rt; covers(alloc, &graph, "99999", "0 50000", "yes")?);
-    assert!(rt; covers(alloc, &graph, "50000", "0 99999", "no")?);
-    Ok(())
+    let mut graph = Graph::new(rt.alloc());
+    put_chain(rt.alloc(), &mut graph)?;
+    check_chain(rt.alloc(), &graph)
 }

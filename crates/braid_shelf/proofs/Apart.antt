@@ -1,7 +1,6 @@
 -- Which classes of bytes are apart, and which within another.
-use Rattle.std.proofs.Common.{◌≡◌, ℕ, suc, ◌+◌, ◌<◌, ◌≤◌, Bool, true, false, cond, ◌||◌, ◌&&◌, leb, List, [], ◌∷◌, ◌++◌, length, lit<, ℤ, refl, sym, ap, ◌∙◌, subst, eqb, arith, inl, inr, ◌⊎◌}
-use Rattle.std.proofs.lemmas.Bool.{ne_eqb, eqb-true, leb-true, and_parts, or_cases, or_left, or_right, or_from, or_parts, and_left, and_right, lt-leb}
-use Rattle.std.specs.List.{list_any}
+use Rattle.std.proofs.Common.{◌≡◌, ℕ, ◌<◌, ◌≤◌, Bool, true, false, ◌||◌, ◌&&◌, leb, List, [], ◌∷◌, ◌++◌, length, lit<, ℤ, refl, ap, eqb, arith, inl, inr}
+use Rattle.std.proofs.lemmas.Bool.{ne_eqb, eqb-true, leb-true, and_parts, or_cases, or_left, or_from, or_parts, and_right, lt-leb}
 use Rattle.braid_shelf.specs.declared.item.Item.{Item}
 use Rattle.braid_shelf.specs.Lists.{AreDigits, SpellsInteger, natural, signed, SpellsItem, string, token, integer, not_true, is_true}
 use Rattle.braid_shelf.specs.Reading.{front_of}

@@ -1,6 +1,6 @@
 -- Strings, one character at a time.
-use Rattle.std.proofs.Common.{◌≡◌, ℕ, suc, ◌+◌, ◌<◌, ◌≤◌, Bool, true, false, cond, ◌||◌, List, [], ◌∷◌, ◌++◌, length, refl, sym, ap, ◌∙◌, subst, append_assoc, eqb, arith, inl, inr, ◌⊎◌, flat_map}
-use Rattle.std.proofs.lemmas.Bool.{ne_eqb, eq-eqb, eqb-true, le-leb, and_from, or_parts}
+use Rattle.std.proofs.Common.{◌≡◌, ℕ, suc, ◌≤◌, Bool, true, false, cond, ◌||◌, List, [], ◌∷◌, ◌++◌, length, refl, sym, ap, ◌∙◌, subst, append_assoc, eqb, inl, inr, ◌⊎◌, flat_map}
+use Rattle.std.proofs.lemmas.Bool.{ne_eqb, eqb-true, le-leb, or_parts}
 use Rattle.std.proofs.lemmas.List.{append-nil}
 use Rattle.braid_ids.specs.Identifiers.{escaped}
 use Rattle.braid_shelf.specs.declared.fault.ShelfKind.TheVariants.{BadItem, Unclosed}

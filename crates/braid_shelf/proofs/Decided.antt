@@ -1,5 +1,5 @@
 -- Laws of header lists.
-use Rattle.std.proofs.Common.{◌≡◌, ℕ, ◌+◌, ◌-◌, ◌≤◌, List, [], length, Option, Some, None, refl, sym, ap, ◌∙◌, subst, arith, inl, inr, ◌⊎◌}
+use Rattle.std.proofs.Common.{◌≡◌, ℕ, List, [], sym, ap, ◌∙◌, arith, inl, inr, ◌⊎◌}
 use Rattle.braid_shelf.specs.declared.fault.ShelfKind.{ShelfKind}
 use Rattle.braid_shelf.specs.declared.member.Member.{Member}
 use Rattle.braid_shelf.specs.Lists.{SpellsList}

@@ -1,19 +1,19 @@
 -- Items: what is read is what stands there, and what stands there is read.
-use Rattle.std.proofs.Common.{◌≡◌, ℕ, suc, ◌+◌, ◌<◌, ◌≤◌, Bool, true, false, cond, ◌||◌, ltb, List, [], ◌∷◌, ◌++◌, length, drop, take, refl, sym, ap, ◌∙◌, subst, append_assoc, eqb, arith, inl, inr, ◌⊎◌, ℤ, pos, neg_ℤ, flat_map}
+use Rattle.std.proofs.Common.{◌≡◌, ℕ, suc, ◌<◌, Bool, true, false, cond, ◌||◌, ltb, List, [], ◌∷◌, ◌++◌, length, refl, sym, ap, ◌∙◌, subst, append_assoc, eqb, arith, inl, inr, ◌⊎◌, ℤ, pos, neg_ℤ, flat_map}
 use Rattle.std.specs.List.{prefix_len}
 use Rattle.std.specs.Str.Parse.{digits_value}
-use Rattle.std.proofs.lemmas.Bool.{ne_eqb, eqb-true, eqb-false, ltb-true, ltb-false, lt-ltb, le-ltb, or_parts, or_cases, or_left, or_right, or_from}
+use Rattle.std.proofs.lemmas.Bool.{ne_eqb, eqb-true, eqb-false, ltb-true, ltb-false, lt-ltb, le-ltb, or_parts, or_cases, or_right, or_from}
 use Rattle.braid_ids.specs.Identifiers.{escaped, spelled_id}
 use Rattle.braid_shelf.specs.declared.fault.ShelfKind.{ShelfKind}
-use Rattle.braid_shelf.specs.declared.fault.ShelfKind.TheVariants.{BadItem, LongInteger, NotCarried, Unclosed}
+use Rattle.braid_shelf.specs.declared.fault.ShelfKind.TheVariants.{BadItem, LongInteger, NotCarried}
 use Rattle.braid_shelf.specs.declared.item.Item.{Item}
 use Rattle.braid_shelf.specs.declared.item.Item.TheVariants as items
-use Rattle.braid_shelf.specs.ByteClasses.{Are, IsWord, begins, is_digit, begins_token, is_in_token, is_printable, is_escaped}
+use Rattle.braid_shelf.specs.ByteClasses.{Are, IsWord, begins, is_digit, begins_token, is_in_token, is_printable}
 use Rattle.braid_shelf.specs.Lists.{AreDigits, SpellsInteger, natural, signed, SpellsItem, string, token, integer, not_true, is_true}
 use Rattle.braid_shelf.specs.Faults.{IsSign, begins_item, IsItemFault, unclosed, no_character, no_escape, no_digit, long, decimal, no_boolean, not_carried, no_item, ended, EndsItem, TakesItem}
 use Rattle.braid_shelf.specs.Reading.{Outcome, Read, Bad, then_read, front_of, after, string_from, digits_at, integer_at, boolean_from, item_at}
 use Rattle.braid_shelf.proofs.Passing.{front_passes, after_stops, front_after, front_is, after_is, count_is, count_least, none_begins, front_length}
-use Rattle.braid_shelf.proofs.Apart.{token_apart, digit_apart, token_goes_on, word_goes_on, front_word, begins_true, begins_or, begins_both, begins_eq}
+use Rattle.braid_shelf.proofs.Apart.{token_apart, digit_apart, token_goes_on, word_goes_on, front_word, begins_or, begins_both, begins_eq}
 use Rattle.braid_shelf.proofs.Characters.{string_passes, quote_ends, end_is_bad, byte_is_bad, escape_is_bad, IsStringRead, string_read}
 
 -- what reading an item gives is what stands there

@@ -1,8 +1,7 @@
 -- Lists of Strings.
-use Rattle.std.proofs.Common.{◌≡◌, ℕ, zero, suc, ◌+◌, ◌-◌, ◌<◌, ◌≤◌, true, false, List, [], ◌∷◌, ◌++◌, length, Option, Some, None, map, refl, sym, ap, ◌∙◌, subst, append_assoc, arith, get_or, flat_map, take}
-use Rattle.std.specs.Prelude.{slice_get}
+use Rattle.std.proofs.Common.{◌≡◌, ℕ, suc, ◌-◌, ◌<◌, ◌≤◌, true, List, [], ◌∷◌, ◌++◌, length, Some, None, map, refl, sym, ap, ◌∙◌, subst, append_assoc, arith, get_or}
 use Rattle.std.specs.List.{AllByRecursion}
-use Rattle.std.proofs.lemmas.Bool.{and_from, le-leb, and_parts}
+use Rattle.std.proofs.lemmas.Bool.{and_from, le-leb}
 use Rattle.std.proofs.lemmas.List.{append-nil}
 use Rattle.braid_ids.specs.Identifiers.{IsIdentifier, IsPrintable, spelled_id}
 use Rattle.braid_shelf.specs.declared.fault.ShelfKind.TheVariants.{NotString}
@@ -12,8 +11,8 @@ use Rattle.braid_shelf.specs.declared.item.Item.{Item}
 use Rattle.braid_shelf.specs.declared.item.Item.TheVariants as items
 use Rattle.braid_shelf.specs.declared.param.Param.{Param}
 use Rattle.braid_shelf.specs.declared.member.Member.{Member}
-use Rattle.braid_shelf.specs.ByteClasses.{Are, is_printable, is_blank, is_space}
-use Rattle.braid_shelf.specs.Lists.{SpellsItem, string, SpellsMember, SpellsBeforeComma, SpellsFollowed, StandsBehind, SpellsList, empty, full, is_string, AreStrings, string_member, text_of, strings_in, spelled_strings}
+use Rattle.braid_shelf.specs.ByteClasses.{Are, is_printable}
+use Rattle.braid_shelf.specs.Lists.{string, SpellsMember, SpellsBeforeComma, SpellsFollowed, StandsBehind, SpellsList, empty, full, is_string, AreStrings, string_member, text_of, strings_in, spelled_strings}
 use Rattle.braid_shelf.specs.Faults as kinds
 use Rattle.braid_shelf.specs.Faults.{IsShelfFault, IsStringsFault, IsStringsShelfFault, IsNotString}
 use Rattle.braid_shelf.specs.Stops.{IsOther}

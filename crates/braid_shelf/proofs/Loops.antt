@@ -1,5 +1,5 @@
 -- Steps as long as what is left passes a test.
-use Rattle.std.proofs.Common.{◌≡◌, ℕ, zero, suc, ◌+◌, ◌<◌, ◌≤◌, Bool, true, false, cond, List, [], ◌∷◌, ◌++◌, length, refl, sym, ap, ◌∙◌, arith}
+use Rattle.std.proofs.Common.{◌≡◌, ℕ, zero, suc, ◌<◌, ◌≤◌, Bool, true, false, cond, List, [], ◌∷◌, length, refl, sym, ◌∙◌, arith}
 use Rattle.braid_shelf.specs.declared.fault.ShelfKind.{ShelfKind}
 use Rattle.braid_shelf.specs.Reading.{Outcome, Read, Bad, then_read, while_read}
 

@@ -1,6 +1,5 @@
 -- Members and what follows them: what is read is what stands there, and what stands there is read.
-use Rattle.std.proofs.Common.{◌≡◌, ℕ, zero, suc, ◌+◌, ◌<◌, ◌≤◌, Bool, true, false, cond, List, [], ◌∷◌, ◌++◌, length, None, refl, sym, ap, ◌∙◌, subst, append_assoc, eqb, arith, inl, inr, ◌⊎◌, length-append}
-use Rattle.std.specs.List.{fold}
+use Rattle.std.proofs.Common.{◌≡◌, ℕ, suc, ◌<◌, ◌≤◌, Bool, true, false, cond, List, [], ◌∷◌, ◌++◌, length, None, refl, sym, ap, ◌∙◌, subst, eqb, arith, inl, inr, ◌⊎◌, length-append}
 use Rattle.std.proofs.lemmas.Bool.{eqb-true, eqb-false, ne_eqb}
 use Rattle.std.proofs.lemmas.List.{nil_from_length, append-nil}
 use Rattle.braid_shelf.specs.declared.fault.ShelfKind.{ShelfKind}
@@ -11,11 +10,10 @@ use Rattle.braid_shelf.specs.declared.item.Item.{Item}
 use Rattle.braid_shelf.specs.declared.param.Param.{Param}
 use Rattle.braid_shelf.specs.declared.member.Member.{Member}
 use Rattle.braid_shelf.specs.ByteClasses.{Are, begins, is_blank}
-use Rattle.braid_shelf.specs.Lists.{put, kept}
-use Rattle.braid_shelf.specs.Faults.{IsItemFault, TakesItem, TakesParams, IsParamsFault, TakesMember, IsMemberFault, no_item, no_params, no_comma, no_member}
-use Rattle.braid_shelf.specs.Reading.{Outcome, Read, Bad, Stops, then_read, while_read, front_of, after, item_at, params_at, member_at, separator_at, Found, with_member, is_some_left, member_step, members_at}
-use Rattle.braid_shelf.proofs.Passing.{front_passes, after_stops, front_after, front_is, after_is, length_after}
-use Rattle.braid_shelf.proofs.Loops.{Shrinks, steps_on, steps_badly, stops_there}
+use Rattle.braid_shelf.specs.Faults.{IsItemFault, TakesItem, IsParamsFault, TakesMember, IsMemberFault, no_item, no_params}
+use Rattle.braid_shelf.specs.Reading.{Outcome, Read, Bad, Stops, then_read, front_of, after, item_at, params_at, member_at, separator_at, Found, with_member, is_some_left, member_step, members_at}
+use Rattle.braid_shelf.proofs.Passing.{front_passes, after_stops, front_after, length_after}
+use Rattle.braid_shelf.proofs.Loops.{Shrinks, steps_on, steps_badly}
 use Rattle.braid_shelf.proofs.Items.{IsItemRead, item_read, item_only, item_fault_only}
 use Rattle.braid_shelf.proofs.Params.{IsParamsRead, params_read, params_only, params_fault_only, item_less, params_less}
 

@@ -1,20 +1,17 @@
 -- Laws of lists of Strings and of counts.
-use Rattle.std.proofs.Common.{◌≡◌, ◌≢◌, ℕ, zero, suc, ◌+◌, ◌-◌, ◌<◌, ◌≤◌, Bool, true, false, cond, List, [], ◌∷◌, ◌++◌, length, Option, Some, None, map, refl, sym, ap, ◌∙◌, subst, append_assoc, arith, inl, inr, ◌⊎◌, length-append, pos}
+use Rattle.std.proofs.Common.{◌≡◌, ℕ, zero, suc, ◌<◌, false, List, [], ◌∷◌, length, Option, Some, None, map, refl, sym, ap, ◌∙◌, arith, length-append}
 use Rattle.braid_shelf.specs.declared.fault.ShelfKind.{ShelfKind}
-use Rattle.braid_shelf.specs.declared.fault.ShelfKind.TheVariants.{NotString, NotCount}
 use Rattle.braid_shelf.specs.declared.item.Item.{Item}
 use Rattle.braid_shelf.specs.declared.member.Member.{Member}
 use Rattle.braid_shelf.specs.ByteClasses.{begins, is_blank}
-use Rattle.braid_shelf.specs.Lists.{SpellsList, is_string, AreStrings, string_member, count_member}
+use Rattle.braid_shelf.specs.Lists.{SpellsList, AreStrings, string_member, count_member}
 use Rattle.braid_shelf.specs.Faults as kinds
 use Rattle.braid_shelf.specs.Faults.{TakesItem, TakesMember, passed_before, IsListFault, IsNotString, IsStringsFault, IsCountFault}
-use Rattle.braid_shelf.specs.Reading.{Outcome, Read, Bad, then_read, while_read, after, member_at, separator_at, Found, no_members, first_other, with_member, is_some_left, member_step, members_at, list_at}
-use Rattle.braid_shelf.specs.Stops.{IsOther}
+use Rattle.braid_shelf.specs.Reading.{Outcome, Read, Bad, then_read, while_read, after, member_at, separator_at, Found, first_other, with_member, is_some_left, member_step, members_at, list_at}
 use Rattle.braid_shelf.proofs.Apart.{item_no_blank, item_some, no_space}
 use Rattle.braid_shelf.proofs.Members.{member_only, members_go_on, members_break}
-use Rattle.braid_shelf.proofs.Wholes.{IsListRead, list_read}
-use Rattle.braid_shelf.proofs.Spelled.{GoesOn, behind_reads, list_only}
-use Rattle.braid_shelf.proofs.Decided.{one_reading, not_both, one_fault, same_found}
+use Rattle.braid_shelf.proofs.Spelled.{behind_reads, list_only}
+use Rattle.braid_shelf.proofs.Decided.{one_reading, not_both, one_fault}
 
 -- the first other member stays the first
 

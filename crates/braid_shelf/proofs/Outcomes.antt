@@ -1,16 +1,13 @@
 -- What the answers of the readers of whole values say.
-use Rattle.std.proofs.Common.{◌≡◌, ℕ, ◌+◌, ◌-◌, ◌≤◌, List, [], ◌∷◌, length, Option, Some, None, refl, sym, ap, ◌∙◌, subst, arith}
-use Rattle.braid_shelf.specs.declared.fault.ShelfKind.{ShelfKind}
-use Rattle.braid_shelf.specs.declared.fault.ShelfKind.TheVariants.{NotString, NotCount}
+use Rattle.std.proofs.Common.{◌≡◌, ℕ, ◌-◌, List, [], length, subst, arith}
 use Rattle.braid_shelf.specs.declared.fault.ShelfFault.{ShelfFault}
 use Rattle.braid_shelf.specs.declared.fault.ShelfFault.TheVariants as faults
 use Rattle.braid_shelf.specs.declared.fault.Stop.{Stop}
 use Rattle.braid_shelf.specs.declared.fault.Stop.TheVariants as stops
-use Rattle.braid_shelf.specs.declared.member.Member.{Member}
 use Rattle.braid_shelf.specs.Lists.{SpellsList}
 use Rattle.braid_shelf.specs.Faults as kinds
 use Rattle.braid_shelf.specs.Faults.{IsListFault, IsShelfFault, IsStringsFault, IsStringsShelfFault, IsCountShelfFault, IsNotString}
-use Rattle.braid_shelf.specs.Reading.{Outcome, Read, Bad, Stops, Found, list_at}
+use Rattle.braid_shelf.specs.Reading.{Read, Stops, Found, list_at}
 use Rattle.braid_shelf.specs.Stops.{IsWithin, fault_of, IsOther}
 use Rattle.braid_shelf.proofs.Wholes.{IsListRead, list_read}
 

@@ -1,7 +1,7 @@
 -- Parameters: what is read is what stands there, and what stands there is read.
-use Rattle.std.proofs.Common.{◌≡◌, ℕ, zero, suc, ◌+◌, ◌<◌, ◌≤◌, Bool, true, false, cond, List, [], ◌∷◌, ◌++◌, length, drop, refl, sym, ap, ◌∙◌, subst, append_assoc, eqb, arith, inl, inr, ◌⊎◌, length-append}
+use Rattle.std.proofs.Common.{◌≡◌, ℕ, zero, suc, ◌<◌, ◌≤◌, Bool, true, false, cond, List, [], ◌∷◌, ◌++◌, length, refl, sym, ap, ◌∙◌, subst, eqb, arith, length-append}
 use Rattle.std.specs.List.{fold}
-use Rattle.std.proofs.lemmas.Bool.{eqb-true, eqb-false, and_parts, or_cases, ne_eqb}
+use Rattle.std.proofs.lemmas.Bool.{eqb-true}
 use Rattle.braid_shelf.specs.declared.fault.ShelfKind.{ShelfKind}
 use Rattle.braid_shelf.specs.declared.fault.ShelfKind.TheVariants.{BadKey}
 use Rattle.braid_shelf.specs.declared.fault.Stop.{Stop}
@@ -9,12 +9,12 @@ use Rattle.braid_shelf.specs.declared.fault.Stop.TheVariants as stops
 use Rattle.braid_shelf.specs.declared.item.Item.{Item}
 use Rattle.braid_shelf.specs.declared.item.Item.TheVariants as items
 use Rattle.braid_shelf.specs.declared.param.Param.{Param}
-use Rattle.braid_shelf.specs.ByteClasses.{Are, IsWord, begins, is_space, begins_key, is_in_key}
+use Rattle.braid_shelf.specs.ByteClasses.{Are, begins, is_space, begins_key, is_in_key}
 use Rattle.braid_shelf.specs.Lists.{IsKey, put}
 use Rattle.braid_shelf.specs.Faults.{IsItemFault, TakesItem, TakesValue, left_out, given, TakesParam, TakesParams, IsParamFault, no_key, no_value, IsParamsFault}
 use Rattle.braid_shelf.specs.Reading.{Outcome, Read, Bad, Stops, then_read, while_read, front_of, after, item_at, key_at, value_at, param_at, begins_param, param_step, params_at}
 use Rattle.braid_shelf.proofs.Passing.{front_passes, after_stops, front_after, front_is, after_is}
-use Rattle.braid_shelf.proofs.Apart.{key_goes_on, word_goes_on, word_begins, front_word, begins_true, no_space_key}
+use Rattle.braid_shelf.proofs.Apart.{key_goes_on, word_goes_on, word_begins, front_word, no_space_key}
 use Rattle.braid_shelf.proofs.Loops.{Shrinks, steps_on, steps_badly, stops_there}
 use Rattle.braid_shelf.proofs.Items.{IsItemRead, item_read, item_only, item_fault_only}
 

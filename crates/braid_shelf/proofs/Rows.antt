@@ -1,10 +1,8 @@
 -- Worked values, read by the definitions.
-use Rattle.std.proofs.Common.{◌≡◌, ℕ, List, [], ◌∷◌, Option, Some, None, true, false, refl, codes, pos}
-use Rattle.braid_shelf.specs.declared.fault.ShelfKind.TheVariants.{BadItem, BadKey, LongInteger, TrailingComma, MissingComma, Unclosed, NotCarried}
-use Rattle.braid_shelf.specs.declared.item.Item.{Item}
+use Rattle.std.proofs.Common.{◌≡◌, [], ◌∷◌, Some, true, refl, codes, pos}
+use Rattle.braid_shelf.specs.declared.fault.ShelfKind.TheVariants.{BadKey, LongInteger, TrailingComma, MissingComma, Unclosed, NotCarried}
 use Rattle.braid_shelf.specs.declared.item.Item.TheVariants as items
-use Rattle.braid_shelf.specs.declared.member.Member.{Member}
-use Rattle.braid_shelf.specs.Reading.{Outcome, Read, Bad, string_from, digits_at, integer_at, boolean_from, item_at, key_at, value_at, param_at, params_at, member_at, separator_at, members_at, list_at}
+use Rattle.braid_shelf.specs.Reading.{Read, Bad, string_from, digits_at, integer_at, boolean_from, item_at, key_at, value_at, param_at, params_at, member_at, separator_at, members_at, list_at}
 
 -- `a;q=1, "b\"c" ,?1`
 members : list_at (codes "a;q=1, \"b\\\"c\" ,?1") ≡ Read (record {

@@ -1,6 +1,5 @@
 -- Whole values: what stands there is read.
-use Rattle.std.proofs.Common.{◌≡◌, ℕ, zero, suc, ◌+◌, ◌-◌, ◌<◌, ◌≤◌, Bool, true, false, ◌||◌, List, [], ◌∷◌, ◌++◌, length, Option, Some, None, refl, sym, ap, ◌∙◌, subst, append_assoc, eqb, arith, inl, inr, ◌⊎◌, length-append}
-use Rattle.std.specs.List.{AllByRecursion}
+use Rattle.std.proofs.Common.{◌≡◌, ℕ, suc, ◌<◌, Bool, true, false, ◌||◌, List, [], ◌∷◌, ◌++◌, length, Option, None, refl, sym, ap, ◌∙◌, subst, append_assoc, eqb, arith, inl, inr, length-append}
 use Rattle.std.proofs.lemmas.Bool.{eqb-true, or_cases}
 use Rattle.std.proofs.lemmas.List.{append-nil}
 use Rattle.braid_shelf.specs.declared.fault.ShelfKind.{ShelfKind}
@@ -10,10 +9,10 @@ use Rattle.braid_shelf.specs.declared.item.Item.TheVariants as items
 use Rattle.braid_shelf.specs.declared.param.Param.{Param}
 use Rattle.braid_shelf.specs.declared.member.Member.{Member}
 use Rattle.braid_shelf.specs.ByteClasses.{Are, begins, is_blank, is_space, is_digit, is_in_token, is_in_key}
-use Rattle.braid_shelf.specs.Lists.{SpellsItem, SpellsValue, left_out, given, SpellsParam, SpellsParams, SpellsMember, SpellsBeforeComma, SpellsFollowed, StandsBehind, SpellsList, empty, full, is_string, AreStrings}
+use Rattle.braid_shelf.specs.Lists.{SpellsItem, SpellsValue, left_out, given, SpellsParam, SpellsParams, SpellsMember, SpellsFollowed, StandsBehind, SpellsList, empty, full, is_string, AreStrings}
 use Rattle.braid_shelf.specs.Faults as faults
 use Rattle.braid_shelf.specs.Faults.{EndsItem, TakesItem, TakesValue, TakesParam, TakesParams, TakesMember, IsMemberFault, passed_before, IsListFault, IsNotString}
-use Rattle.braid_shelf.specs.Reading.{Outcome, Read, Bad, after, member_at, separator_at, Found, no_members, first_other, with_member, members_at, list_at}
+use Rattle.braid_shelf.specs.Reading.{Read, Bad, after, separator_at, Found, no_members, first_other, with_member, members_at, list_at}
 use Rattle.braid_shelf.proofs.Passing.{after_is}
 use Rattle.braid_shelf.proofs.Apart.{item_no_blank, item_some, no_space}
 use Rattle.braid_shelf.proofs.Members.{member_only, member_item_fault, member_params_fault, separator_end, separator_comma, separator_last, separator_none, members_go_on, members_go_wrong, members_break, members_end}

@@ -1,22 +1,22 @@
 -- Whole values: what is read is what stands there.
-use Rattle.std.proofs.Common.{◌≡◌, ℕ, zero, suc, ◌+◌, ◌-◌, ◌<◌, ◌≤◌, Bool, true, false, cond, List, [], ◌∷◌, ◌++◌, length, Option, Some, None, refl, sym, ap, ◌∙◌, subst, append_assoc, eqb, arith, inl, inr, ◌⊎◌, length-append}
-use Rattle.std.proofs.lemmas.List.{nil_from_length, append-nil}
+use Rattle.std.proofs.Common.{◌≡◌, ℕ, zero, suc, ◌+◌, ◌-◌, ◌<◌, ◌≤◌, Bool, true, false, cond, List, [], ◌∷◌, ◌++◌, length, Option, Some, None, refl, sym, ap, ◌∙◌, subst, append_assoc, arith, inl, inr, length-append}
+use Rattle.std.proofs.lemmas.List.{append-nil}
 use Rattle.braid_shelf.specs.declared.fault.ShelfKind.{ShelfKind}
 use Rattle.braid_shelf.specs.declared.fault.ShelfKind.TheVariants.{MissingComma, TrailingComma}
 use Rattle.braid_shelf.specs.declared.item.Item.{Item}
 use Rattle.braid_shelf.specs.declared.param.Param.{Param}
 use Rattle.braid_shelf.specs.declared.member.Member.{Member}
-use Rattle.std.specs.List.{flat_map, AllByRecursion}
+use Rattle.std.specs.List.{flat_map}
 use Rattle.braid_ids.specs.Identifiers.{escaped}
-use Rattle.braid_shelf.specs.ByteClasses.{Are, begins, is_blank, is_space, is_digit}
-use Rattle.braid_shelf.specs.Lists.{put, kept, SpellsItem, SpellsValue, left_out, given, SpellsParam, SpellsParams, SpellsMember, SpellsBeforeComma, SpellsFollowed, StandsBehind, SpellsList, empty, full, is_string, AreStrings}
+use Rattle.braid_shelf.specs.ByteClasses.{Are, begins, is_blank, is_space}
+use Rattle.braid_shelf.specs.Lists.{SpellsValue, left_out, given, SpellsParam, SpellsParams, SpellsMember, SpellsBeforeComma, SpellsFollowed, StandsBehind, SpellsList, empty, full, is_string, AreStrings}
 use Rattle.braid_shelf.specs.Faults as faults
 use Rattle.braid_shelf.specs.Faults.{IsItemFault, TakesItem, TakesValue, TakesParam, TakesParams, IsParamFault, IsParamsFault, TakesMember, IsMemberFault, passed_before, IsListFault, IsNotString}
 use Rattle.braid_shelf.specs.Stops.{IsOther}
 use Rattle.braid_shelf.specs.Reading.{Outcome, Read, Bad, then_read, while_read, front_of, after, member_at, separator_at, Found, no_members, first_other, with_member, is_some_left, member_step, members_at, list_at}
-use Rattle.braid_shelf.proofs.Passing.{front_passes, after_stops, front_after, length_after, Are-append}
+use Rattle.braid_shelf.proofs.Passing.{front_passes, after_stops, front_after, length_after}
 use Rattle.braid_shelf.proofs.Params.{item_less, param_less}
-use Rattle.braid_shelf.proofs.Members.{IsMemberRead, member_read, member_less, Follows, nothing, comma, IsSeparatorRead, separator_read}
+use Rattle.braid_shelf.proofs.Members.{IsMemberRead, member_read, member_less, nothing, comma, IsSeparatorRead, separator_read}
 
 -- from what is taken from the front of bytes to what is spelled there
 

@@ -102,7 +102,8 @@ pub record StandsBehind (members : List Member) (value rest : List ℕ) : Type 0
 -- after each but the last, and spaces and tabs
 pub data SpellsList : List Member → List ℕ → Type 0 where
   empty : (value : List ℕ) → Are is_space value → SpellsList [] value
-  full : (members : List Member) (last : Member) (value text end : List ℕ) → StandsBehind members value (text ++ end) → SpellsMember last text → Are is_blank end → SpellsList (members ++ last ∷ []) value
+  full : (members : List Member) (last : Member) (value text end : List ℕ) → StandsBehind members value (text ++ end)
+      → SpellsMember last text → Are is_blank end → SpellsList (members ++ last ∷ []) value
 
 -- a String without parameters
 abbrev pub string_member : List ℕ → Member

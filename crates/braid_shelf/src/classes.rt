@@ -16,10 +16,7 @@ pub(crate) fn begins_token(byte: u8) -> bool
 pub(crate) fn is_in_token(byte: u8) -> bool
     ensures { result ≡ is_in_token byte }
 {
-    matches!(
-        byte,
-        b'a'..=b'z' | b'A'..=b'Z' | b'0'..=b'9' | b'!' | b'#' | b'$' | b'%' | b'&' | b'\'' | b'*' | b'+' | b'-' | b'.' | b'^' | b'_' | b'`' | b'|' | b'~' | b':' | b'/'
-    )
+    byte.is_ascii_alphanumeric() || b"!#$%&'*+-.^_`|~:/".contains(&byte)
 }
 
 /// Whether a key may begin with the byte.

@@ -10,7 +10,8 @@ use std::alloc::Global;
 
 /// The number that members are, where they are one Integer that is not negative, without parameters.
 fn count_of(members: &[Member]) -> Option<u64>
-    ensures { MatchOption result ((number : ℕ) → members.now ≢ count_member number ∷ []) (λ number. members.now ≡ count_member number ∷ []) }
+    ensures { MatchOption result ((number : ℕ) → members.now ≢ count_member number ∷ [])
+        (λ number. members.now ≡ count_member number ∷ []) }
 {
     let [member] = members else {
         return None;

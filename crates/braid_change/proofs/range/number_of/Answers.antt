@@ -1,4 +1,3 @@
-use Rattle.std.proofs.Common.{arith}
 use Rattle.braid_change.proofs.Departures.{digits_utf8, unparsed}
 use Rattle.braid_change.proofs.range.number_of.Goals as goal
 

@@ -1,4 +1,4 @@
-use Rattle.std.proofs.Common.{sym, ap, ◌∙◌}
+use Rattle.std.proofs.Common.{sym, ◌∙◌}
 use Rattle.braid_change.proofs.Pieces.{lent_spliced, lent_within}
 use Rattle.braid_change.proofs.splices.splice_patches.Goals as goal
 

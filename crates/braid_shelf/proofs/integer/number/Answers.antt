@@ -1,4 +1,4 @@
-use Rattle.std.proofs.Common.{◌≡◌, ◌+◌, ◌*◌, ◌-◌, ◌<◌, ◌^◌, get_or, length, take, arith}
+use Rattle.std.proofs.Common.{◌≡◌, take, arith}
 use Rattle.std.specs.Str.Parse.{digits_value}
 use Rattle.std.proofs.lemmas.Str.Parse.{digits_value-take-le}
 use Rattle.braid_shelf.proofs.Digits.{small, next_digit, next_small}

@@ -1,4 +1,3 @@
-use Rattle.std.proofs.Common.{◌≡◌}
 use Rattle.braid_shelf.proofs.Passing.{front_passes}
 use Rattle.braid_shelf.specs.ByteClasses.{is_digit}
 use Rattle.braid_shelf.proofs.integer.read_integer.Goals as goal

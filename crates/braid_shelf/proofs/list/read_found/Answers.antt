@@ -1,4 +1,4 @@
-use Rattle.std.proofs.Common.{◌≡◌, subst, sym, length}
+use Rattle.std.proofs.Common.{subst, sym}
 use Rattle.braid_shelf.specs.Faults.{IsShelfFault}
 use Rattle.braid_shelf.proofs.Outcomes.{found_list, found_other, stop_within, stop_fault}
 use Rattle.braid_shelf.proofs.list.read_found.Goals as goal

@@ -1,10 +1,9 @@
-use Rattle.std.proofs.Common.{◌≡◌, [], ◌∷◌, ◌+◌, ◌<◌, ◌≤◌, length, sym, ap, subst, ◌∙◌, arith}
+use Rattle.std.proofs.Common.{◌≡◌, [], ◌<◌, length, sym, ap, subst, ◌∙◌, arith}
 use Rattle.std.proofs.lemmas.Grind.{common_steps}
 use Rattle.std.proofs.lemmas.Bool.{eqb-true}
 use Rattle.std.proofs.lemmas.List.{nil_from_length}
 use Rattle.std.proofs.lemmas.Result.{err_from_is_err_and}
-use Rattle.braid_shelf.specs.ByteClasses.{is_blank}
-use Rattle.braid_shelf.specs.Reading.{Read, Stops, after, separator_at, members_at, list_at}
+use Rattle.braid_shelf.specs.Reading.{Stops, separator_at, members_at, list_at}
 use Rattle.braid_shelf.proofs.Members.{members_go_on, members_end, member_stops, separator_stops, loop_less}
 use Rattle.braid_shelf.proofs.list.read_members.Goals as goal
 

@@ -1,6 +1,6 @@
-use Rattle.std.proofs.Common.{◌≡◌, [], ◌∷◌, ◌+◌, ◌<◌, ◌≤◌, length, sym, ap, ◌∙◌, arith}
+use Rattle.std.proofs.Common.{◌≡◌, [], ◌∷◌, ◌≤◌, length, sym, ap, ◌∙◌, arith}
 use Rattle.std.proofs.lemmas.Result.{err_from_is_err_and}
-use Rattle.braid_shelf.specs.Reading.{Read, Stops, params_at, param_at, Gives}
+use Rattle.braid_shelf.specs.Reading.{Read, params_at}
 use Rattle.braid_shelf.proofs.Params.{params_go_on, params_stop, params_end, param_shrinks}
 use Rattle.braid_shelf.proofs.param.read_params.Goals as goal
 

@@ -1,4 +1,4 @@
-use Rattle.std.proofs.Common.{◌≡◌, ◌≤◌, List, ℕ, [], ◌∷◌, arith, refl, inl, inr, ◌⊎◌, sym, ap, ◌∙◌}
+use Rattle.std.proofs.Common.{◌≡◌, ◌≤◌, ◌∷◌, arith, inl, inr, ◌⊎◌, sym, ap, ◌∙◌}
 use Rattle.braid_shelf.specs.Reading.{string_from}
 use Rattle.braid_shelf.proofs.Characters.{plain_step, escaped_step}
 use Rattle.braid_shelf.proofs.string.read_string.Goals as goal

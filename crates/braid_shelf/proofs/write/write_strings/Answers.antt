@@ -2,7 +2,7 @@ use Rattle.std.proofs.Common.{◌≡◌, [], ◌∷◌, ◌++◌, ◌<◌, ◌�
 use Rattle.std.specs.Prelude.{slice_get}
 use Rattle.std.specs.List.{AllByRecursion}
 use Rattle.std.proofs.lemmas.List.{take_all}
-use Rattle.braid_ids.specs.Identifiers.{IsIdentifier, spelled_id}
+use Rattle.braid_ids.specs.Identifiers.{IsIdentifier}
 use Rattle.braid_shelf.specs.Lists.{SpellsList, string_member, spelled_strings}
 use Rattle.braid_shelf.proofs.Written.{written_more, more_valid, none_left}
 use Rattle.braid_shelf.proofs.Listed.{ids_listed}

@@ -1,4 +1,4 @@
-use Rattle.std.proofs.Common.{◌≡◌, ◌≤◌, arith, refl, sym}
+use Rattle.std.proofs.Common.{arith, refl, sym}
 use Rattle.braid_graph.proofs.Marked.{all_marked_next, all_marked_all}
 use Rattle.braid_graph.proofs.graph.Graph.all_marked.Goals as goal
 

@@ -1,4 +1,3 @@
-use Rattle.std.proofs.Common.{◌≡◌, ◌↔◌}
 use Rattle.std.proofs.lemmas.List.Elements.{Contains-append_right}
 use Rattle.braid_graph.proofs.Marked.{covers_marked}
 use Rattle.braid_graph.proofs.graph.Graph.covers.Goals as goal

@@ -1,4 +1,3 @@
-use Rattle.std.proofs.Common.{◌≡◌}
 use Rattle.braid_graph.proofs.Collected.{frontier_of_ids}
 use Rattle.braid_graph.proofs.graph.Graph.frontier.Goals as goal
 

@@ -1,8 +1,8 @@
-use Rattle.std.proofs.Common.{◌≡◌, ℕ, ◌+◌, ◌-◌, ◌<◌, ◌≤◌, List, [], ◌∷◌, length, drop, filter, reverse, arith, sym, ap, subst, ◌∙◌, inl, inr, ◌⊎◌}
+use Rattle.std.proofs.Common.{◌≡◌, ℕ, ◌+◌, ◌-◌, List, length, drop, filter, reverse, arith, sym, ap, subst, inl, inr, ◌⊎◌}
 use Rattle.braid_graph.specs.Entries.{GraphEntry, ids_of}
 use Rattle.braid_graph.specs.Frontiers.{is_head, heads_of}
 use Rattle.braid_graph.specs.Inside.{entries_in}
-use Rattle.braid_graph.proofs.Collected.{head_next, other_next, heads_none, heads_all, heads_few}
+use Rattle.braid_graph.proofs.Collected.{head_next, other_next, heads_all, heads_few}
 use Rattle.braid_graph.proofs.graph.Graph.head_ids.Goals as goal
 use Rattle.braid_graph.proofs.graph.Graph.head_ids.Goals.{else-loop-n-test, then-loop-n-test+then-len-width}
 

@@ -1,7 +1,5 @@
-use Rattle.std.proofs.Common.{◌≡◌, ◌≤◌, ℕ, ◌+◌, take, arith, sym}
+use Rattle.std.proofs.Common.{arith, sym}
 use Rattle.std.specs.Option.{option_copied}
-use Rattle.braid_graph.specs.Ancestries.{IsLeastUnheld}
-use Rattle.braid_graph.specs.Inside.{IsLeastOf}
 use Rattle.braid_graph.proofs.Unheld.{least_next, least_next_held, least_all, held_from, not_held_from}
 use Rattle.braid_graph.proofs.graph.Graph.least_unheld.Goals as goal
 use Rattle.braid_graph.proofs.graph.Graph.least_unheld.Goals.{then-is_none, else-is_none}

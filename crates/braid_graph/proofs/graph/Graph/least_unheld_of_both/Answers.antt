@@ -1,4 +1,4 @@
-use Rattle.std.proofs.Common.{◌≡◌, ◌++◌, sym, subst}
+use Rattle.std.proofs.Common.{◌++◌, sym, subst}
 use Rattle.std.specs.Option.{option_copied}
 use Rattle.braid_graph.specs.Ancestries.{IsLeastUnheld}
 use Rattle.braid_graph.proofs.Unheld.{least_held, least_lesser}

@@ -1,4 +1,4 @@
-use Rattle.std.proofs.Common.{◌≡◌, ◌<◌, ◌≤◌, List, length, slice_get, arith, sym, ap, subst}
+use Rattle.std.proofs.Common.{◌≡◌, List, length, slice_get, arith, ap, subst}
 use Rattle.std.specs.Option.{IfSome}
 use Rattle.std.proofs.lemmas.Option.{slice_get_read}
 use Rattle.braid_graph.specs.Entries.{GraphEntry}

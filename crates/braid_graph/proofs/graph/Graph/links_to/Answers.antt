@@ -1,4 +1,4 @@
-use Rattle.std.proofs.Common.{◌≡◌, ◌≤◌, ℕ, max, arith, sym, ◌∙◌}
+use Rattle.std.proofs.Common.{arith, sym, ◌∙◌}
 use Rattle.braid_graph.proofs.Kept.{greatest_next, numbers_next, max_is}
 use Rattle.braid_graph.proofs.graph.Graph.links_to.Goals as goal
 

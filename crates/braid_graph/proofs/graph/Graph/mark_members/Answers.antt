@@ -1,4 +1,4 @@
-use Rattle.std.proofs.Common.{◌≡◌, ◌+◌, sym}
+use Rattle.std.proofs.Common.{◌+◌, sym}
 use Rattle.braid_graph.proofs.Kept.{max_is}
 use Rattle.braid_graph.proofs.Marked.{members_next}
 use Rattle.braid_graph.proofs.graph.Graph.mark_members.Goals as goal

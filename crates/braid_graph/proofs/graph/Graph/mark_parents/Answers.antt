@@ -1,4 +1,4 @@
-use Rattle.std.proofs.Common.{◌≡◌, ◌+◌, ◌<◌, ◌≤◌, List, length, get_or, arith, ap, ◌∙◌}
+use Rattle.std.proofs.Common.{List, length, get_or, arith, ap, ◌∙◌}
 use Rattle.std.proofs.lemmas.Option.{slice_get-get_or}
 use Rattle.braid_graph.specs.Entries.{GraphEntry}
 use Rattle.braid_graph.specs.Inside.{entries_in, IsLinked}

@@ -1,6 +1,5 @@
-use Rattle.std.proofs.Common.{◌≡◌, ◌+◌, ◌-◌, ◌≤◌, ℕ, List, Bool, false, length, replicate, arith, refl, sym, ap, subst, ◌∙◌}
+use Rattle.std.proofs.Common.{◌≡◌, ◌-◌, ℕ, List, false, length, replicate, arith, refl, sym, ap, subst, ◌∙◌}
 use Rattle.braid_graph.specs.Entries.{GraphEntry, IsHistoryGraph}
-use Rattle.braid_graph.specs.Inside.{entries_in}
 use Rattle.braid_graph.proofs.Collected.{entries_length}
 use Rattle.braid_graph.proofs.Marked.{IsWalked, walk_begun, walk_marks, walk_done}
 use Rattle.braid_graph.proofs.graph.Graph.marked.Goals as goal

@@ -1,4 +1,4 @@
-use Rattle.std.proofs.Common.{◌≡◌, List, length, ap, ◌∙◌}
+use Rattle.std.proofs.Common.{List, length, ap, ◌∙◌}
 use Rattle.braid_graph.specs.Entries.{GraphEntry}
 use Rattle.braid_graph.specs.Frontiers.{frontier_of}
 use Rattle.braid_graph.specs.Inside.{entries_in}

@@ -1,4 +1,4 @@
-use Rattle.std.proofs.Common.{◌≡◌, map, ap, ◌∙◌}
+use Rattle.std.proofs.Common.{map, ap, ◌∙◌}
 use Rattle.braid_shelf.specs.Lists.{param_of, put}
 use Rattle.braid_shelf.proofs.Keyed.{inserted}
 use Rattle.braid_shelf.proofs.param_map.ParamMap.put.Goals as goal
