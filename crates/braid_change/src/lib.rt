@@ -31,4 +31,6 @@ pub use text::{Text, TextFault};
 pub use update::{BuildFault, Update};
 
 #[cfg(test)]
+mod range_tests;
+#[cfg(test)]
 mod tests;

@@ -1,4 +1,4 @@
--- Where and why a value is no header list: the first place from the left at which no reading goes on.
+-- Where and why a value is no header list: the first fault from the left, by its kind and place.
 -- `left` counts the bytes from the place of a fault to the end of the value.
 use Rattle.std.specs.Prelude.{◌≡◌, ◌≢◌, ℕ, suc, ◌+◌, ◌<◌, ◌⊎◌, ◌==◌, ◌||◌, Bool, true, false, List, [], ◌∷◌, ◌++◌, length}
 use Rattle.std.specs.List.{flat_map}

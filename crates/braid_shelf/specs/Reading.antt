@@ -1,5 +1,5 @@
 -- How a header list is read from the left, up to its end or its first fault, for the contracts of the readers of
--- parts. The laws tie it to the spellings of `Lists` and the faults of `Faults`.
+-- parts. Lemmas tie it to the spellings of `Lists` and the faults of `Faults`.
 use Rattle.std.specs.Prelude.{◌≡◌, ℕ, zero, suc, ◌==◌, ◌||◌, nat_lt, Bool, true, false, List, [], ◌∷◌, ◌++◌, length, take, drop, Result, Ok, Err, Option, Some, None, if◌then◌else◌, ℤ, pos, neg_ℤ}
 use Rattle.std.specs.List.{prefix_len}
 use Rattle.std.specs.Str.Parse.{digits_value}

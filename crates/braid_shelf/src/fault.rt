@@ -15,7 +15,7 @@ pub enum ShelfKind {
     BadKey,
     /// An Integer has more than 15 digits.
     LongInteger,
-    /// No member follows a comma.
+    /// The value ends after a comma.
     TrailingComma,
     /// Something else than a comma follows a member.
     MissingComma,

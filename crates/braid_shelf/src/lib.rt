@@ -2,10 +2,10 @@
 //!
 //! A List has members that are Strings, Tokens, Integers or Booleans, each with parameters. Decimals, Byte Sequences
 //! and Inner Lists are not carried. A value that is a List is read into exactly its members; of any other value the
-//! reader answers the first place from the left at which no reading goes on, and why. `laws` says that no value has
+//! reader answers the first fault from the left, by its kind and place. `laws` says that no value has
 //! two readings, or both a reading and a fault, or neither. Identifiers are written as Lists of Strings.
 //!
-//! A value is looked at once, from the left, and only what is kept of it is copied. Nothing here joins the lines of
+//! A value is read in one pass from the left, and only what is kept of it is copied. Nothing here joins the lines of
 //! a field, and nothing knows what a member means.
 #![tactic(auto)]
 

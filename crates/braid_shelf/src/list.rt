@@ -59,7 +59,7 @@ pub(crate) fn read_found(alloc: Global, value: &[u8]) -> Result<Found, ShelfFaul
 /// Reads a List (RFC 8941, section 3.1) of Strings, Tokens, Integers and Booleans with parameters.
 ///
 /// `value` is the whole value of the field, its lines joined by commas. The empty value is the empty List.
-/// The members come in the order in which they stand. The value is looked at once, from the left, and not copied.
+/// The members come in the order in which they stand. The value is read in one pass from the left, and not copied.
 ///
 /// Errors: `Bad` with the place and the kind of the first fault from the left; `Memory` where there was none for
 /// the members. Nothing is kept after an error.

@@ -10,7 +10,9 @@ use std::alloc::Global;
 /// A member of a header list (RFC 8941, section 3.1): an item with its parameters.
 #[derive(Debug, Drop)]
 pub struct Member {
+    /// What stands before the parameters.
     pub item: Item,
+    /// The parameters behind it, where there are any.
     pub params: ListParam,
 }
 

@@ -12,11 +12,14 @@ use std::marker::Model;
 /// A parameter of a member (RFC 8941, section 3.1.2). One without a value is true.
 #[derive(Debug, Drop)]
 pub struct Param {
+    /// The key, which begins with a small letter or `*`.
     pub key: Bytes,
+    /// The value; true where none is given.
     pub value: Item,
 }
 
-/// The parameters of a member, with different keys, in the order in which their keys first stand.
+/// The parameters of a member. Of a member that was read, the keys differ, and are in the order in which they first
+/// stand.
 #[derive(Debug, Drop)]
 pub struct ListParam {
     params: Vec<Param>,

@@ -1,0 +1,58 @@
+use super::*;
+use std::test::Fail;
+
+#[test]
+fn ranges_are_read(rt: HostRuntime) -> Result<(), Fail> {
+    let rows: [(&[u8], (u32, u32)); 4] = [
+        (b"text [0:1]", (0, 1)),
+        (b"text   [12:345]", (12, 345)),
+        (b"text [0000000007:4294967295]", (7, 4_294_967_295)),
+        (b"text [5:2]", (5, 2)),
+    ];
+    for (value, range) in rows {
+        assert_eq!(rt; read_range(value), Ok(range));
+    }
+    Ok(())
+}
+
+#[test]
+fn other_units_and_large_numbers_are_no_ranges(rt: HostRuntime) -> Result<(), Fail> {
+    let rows: [(&[u8], RangeFault); 10] = [
+        (b"", RangeFault::Unit),
+        (b"json [0:1]", RangeFault::Unit),
+        (b"text[0:0]", RangeFault::Unit),
+        (b"Text [0:0]", RangeFault::Unit),
+        (b" text [0:0]", RangeFault::Unit),
+        (b"text\t[0:0]", RangeFault::Unit),
+        (b"text [4294967296:x]", RangeFault::Number),
+        (b"text [0:4294967296]", RangeFault::Number),
+        (b"text [00000000000:1]", RangeFault::Number),
+        (b"text [0:99999999999999999999", RangeFault::Number),
+    ];
+    for (value, fault) in rows {
+        assert_eq!(rt; read_range(value).err(), Some(fault));
+    }
+    Ok(())
+}
+
+#[test]
+fn values_depart_from_the_form_at_a_place(rt: HostRuntime) -> Result<(), Fail> {
+    let rows: [(&[u8], u64); 12] = [
+        (b"text", 4),
+        (b"text ", 5),
+        (b"text  (0:1]", 6),
+        (b"text []", 6),
+        (b"text [-1:2]", 6),
+        (b"text [x:99999999999]", 6),
+        (b"text [1]", 7),
+        (b"text [1 :2]", 7),
+        (b"text [1:", 8),
+        (b"text [1:2", 9),
+        (b"text [1:2)", 9),
+        (b"text [1:2] ", 10),
+    ];
+    for (value, at) in rows {
+        assert_eq!(rt; read_range(value).err(), Some(RangeFault::Form { at }));
+    }
+    Ok(())
+}
