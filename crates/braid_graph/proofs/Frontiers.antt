@@ -66,7 +66,7 @@ pub one_frontier : (es : List GraphEntry) (F : List (List ℕ)) → IsFrontierOf
 one_frontier es F is = let own = frontier_is es in rising_same F (frontier_of es) is.rising own.rising (λ v. (λ c. (own.exact v).1 ((is.exact v).0 c), λ c. (is.exact v).1 ((own.exact v).0 c)))
 
 -- the frontier speaks of the entries alone, in whatever order they are
-held_same : (es fs : List GraphEntry) → ((e : GraphEntry) → Contains es e → Contains fs e) → (v : List ℕ) → Holds es v → Holds fs v
+pub held_same : (es fs : List GraphEntry) → ((e : GraphEntry) → Contains es e → Contains fs e) → (v : List ℕ) → Holds es v → Holds fs v
 held_same es fs same v held =
     let r = id_entry v es (contains_member (ids_of es) v held) in
     member_contains (ids_of fs) v (subst (λ (t : List ℕ). Member t (ids_of fs)) r.2 (entry_id r.0 fs (contains_member fs r.0 (same r.0 (member_contains es r.0 r.1)))))

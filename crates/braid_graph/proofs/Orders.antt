@@ -8,7 +8,7 @@ use Rattle.braid_graph.specs.Orders.{SameAnswers}
 use Rattle.braid_graph.proofs.Members.{contains_member}
 use Rattle.braid_graph.proofs.Walk.{least, same_ancestry, walk_sound, walk_complete}
 use Rattle.braid_graph.proofs.Levels.{below_frontier, same_levels}
-use Rattle.braid_graph.proofs.Frontiers.{same_frontiers}
+use Rattle.braid_graph.proofs.Frontiers.{held_same, same_frontiers}
 
 pub in_closed : (es : List GraphEntry) (F xs : List (List ℕ)) (v : List ℕ) → IsClosed es F xs → IsAncestor es F v → Contains xs v
 in_closed es F xs v closed a = least es F (Contains xs) closed.names closed.parents v a
@@ -33,6 +33,7 @@ above_ancestry es h v w a other = go (below_frontier es h (v ∷ []) w a)
 
 pub same_answers : (es fs : List GraphEntry) → IsHistoryGraph es → IsHistoryGraph fs → SameEntries es fs → SameAnswers es fs
 same_answers es fs h k same = record {
+  held = λ v. (held_same es fs (λ e. (same e).0) v, held_same fs es (λ e. (same e).1) v);
   ancestry = λ F v. (same_ancestry es fs (λ e. (same e).0) F v, same_ancestry fs es (λ e. (same e).1) F v);
   level = same_levels es fs h k same;
   frontier = same_frontiers es fs same;

@@ -171,6 +171,34 @@ fn levels_and_ancestries_are_those_of_any_order(rt: HostRuntime) -> Result<(), F
     check_lines(alloc, &reordered, REORDERED)
 }
 
+/// Whether the ancestry is refused, with this identifier as the least that is not known.
+fn has_unknown(alloc: Global, graph: &Graph, of: &str, name: &str) -> Result<bool, Fail> {
+    let of = frontier_of(alloc, of)?;
+    match graph.ancestry(alloc, &of) {
+        Err(Unknown::Id { id }) => Ok(id.bytes() == name.as_bytes()),
+        Ok(_) | Err(Unknown::Memory) => Ok(false),
+    }
+}
+
+/// Ancestries of no member, of several, and of unknown ones.
+fn check_frontiers(alloc: Global, graph: &Graph) -> Result<(), Fail> {
+    check(is_ancestry(alloc, graph, "", "000000000000")?, "no member")?;
+    check(
+        is_ancestry(alloc, graph, "c-1 l-1 d-1 l-1", "111000000010")?,
+        "several members",
+    )?;
+    check(
+        has_unknown(alloc, graph, "y-1 h-1 x-1 x-1", "x-1")?,
+        "the least unknown",
+    )
+}
+
+#[test]
+fn an_ancestry_has_all_members_or_names_the_least_unknown(rt: HostRuntime) -> Result<(), Fail> {
+    let graph = graph_of(rt.alloc(), VERSIONS)?;
+    check_frontiers(rt.alloc(), &graph)
+}
+
 /// A fork and its join.
 fn check_diamond(alloc: Global, graph: &mut Graph) -> Result<(), Fail> {
     check(has_frontier(alloc, graph, "")?, "no entry")?;

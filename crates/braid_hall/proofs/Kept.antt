@@ -1,5 +1,5 @@
 -- What follows from the rule, and from what a turn tells.
-use Rattle.std.proofs.Common.{◌≡◌, ℕ, ◌+◌, ◌<◌, Bool, true, false, ltb, List, length, sym, ap, ◌∙◌, arith, true≢false}
+use Rattle.std.proofs.Common.{◌≡◌, ℕ, ◌+◌, ◌<◌, ◌≤◌, Bool, true, false, ltb, List, length, sym, ap, ◌∙◌, arith, true≢false}
 use mathlib.Core.Option.{some}
 use lib.ListN.{get_elem?}
 use Rattle.std.proofs.lemmas.List.{length-map}
@@ -8,7 +8,7 @@ use Rattle.atomic_table.specs.Table.{State}
 use Rattle.atomic_table.proofs.Lists.{at_map}
 use Rattle.braid_hall.specs.declared.view.View.{View}
 use Rattle.braid_hall.specs.Histories.{IsPrefix, longer_of, added}
-use Rattle.braid_hall.specs.Views.{ticket_of, split_parts_of}
+use Rattle.braid_hall.specs.Views.{total, ticket_of, ready_of, split_parts_of}
 use Rattle.braid_hall.specs.Turns.{IsKnownOrSpent, IsKept}
 use Rattle.braid_hall.proofs.Histories.{longer_begins, longer_begins_with_both, only_made}
 
@@ -28,6 +28,10 @@ module _ {B E : Type 0} (entries : B → List E) (by : E → ℕ) where
       let count : length s.views ≡ root.1 + 1 = sym (length-map s.views split_parts_of) ∙ q.numbers.counted in
       let made = only_made by root.1 (added base k.history) (λ n above. q.others n (omega arith)) in
       λ place d inside. let few = made place d inside in omega arith
+
+  pub end_of_tickets : (start : ℕ) (base : List E) (s : State (Option B) (View E)) (k : IsKept entries by start base s) → start < 9223372036854775808 → k.ticket + total ready_of s.views ≤ 9223372036854775809 + k.rule.numbers.root.1
+  end_of_tickets start base s k small = let q = k.rule in let root = q.numbers.root in let room = q.room small in
+      let count : length s.views ≡ root.1 + 1 = sym (length-map s.views split_parts_of) ∙ q.numbers.counted in omega arith
 
 pub longer_of_both : {E : Type 0} (xs ys zs : List E) → IsPrefix xs zs → IsPrefix ys zs → IsPrefix xs (longer_of xs ys) × IsPrefix ys (longer_of xs ys)
 longer_of_both xs ys zs p q = let b = ltb (length xs) (length ys) in longer_begins_with_both xs ys zs (longer_begins xs ys zs b p q) (longer_begins ys xs zs b q p)

@@ -9,23 +9,39 @@ use Rattle.braid_hall.specs.Histories.{IsPrefix, longer_of, without, added, adde
 use Rattle.braid_hall.specs.Views.{after_look, after_draw, after_find}
 use Rattle.braid_hall.specs.Steps.{Finds}
 
--- what a pass is to contracts: which hall it steps in, its number, the history that it has seen, the entries that it added, the length found at each turn, whether it is in a turn, which passes split from it are not yet joined, the room for further marks, its ticket, how many tickets were drawn by it and by passes joined into it, what it last saw as the next ticket, whether it may draw one, how many passes it split off, number and entries of each pass joined into it, and the ticket and the history at the opening
+-- what a pass is to contracts
 pub record PassView (E : Type 0) : Type 0 where
+  -- which hall it steps in
   pub hall : TableId
+  -- its number: 0 for the pass from the opening
   pub number : ℕ
+  -- the history that it has seen
   pub seen : List E
+  -- the entries that it added
   pub mine : List E
+  -- the length found at each of its turns
   pub marks : List ℕ
+  -- whether it is in a turn
   pub held : Bool
+  -- the numbers of the passes split from it and not yet joined
   pub away : List ℕ
+  -- the room for further marks
   pub spare : ℕ
+  -- its ticket, if it has one
   pub ticket : Option ℕ
+  -- how many tickets were drawn by it and by passes joined into it
   pub turns : ℕ
+  -- what it last saw as the next ticket, or a greater number that a pass joined into it saw
   pub look : ℕ
+  -- whether it may draw a ticket
   pub ready : Bool
+  -- how many passes it split off
   pub made : ℕ
+  -- number and entries of each pass joined into it
   pub ended : List (ℕ × List E)
+  -- the ticket at the opening
   pub opened : ℕ
+  -- the history at the opening
   pub opening : List E
 
 -- what contracts see of a view in a hall, with marks and a room for more
@@ -118,7 +134,7 @@ module _ {E : Type 0} where
         ready = false;
       }
 
-  -- a pass after it looked at a number from which on no ticket is drawn
+  -- a pass after it looked at a number at which it draws no ticket
   abbrev pub worn : PassView E → ℕ → PassView E
   worn p look = record p { look = look; ready = false }
 
@@ -168,24 +184,32 @@ module _ {E : Type 0} where
     pub mine : IsPrefix p.seen history
     pub theirs : IsPrefix other.seen history
 
-  -- the pass looked at a number from which on no ticket is drawn, and nothing else is changed
+  -- the pass looked at a number at which it draws no ticket, and nothing else is changed
   pub record IsWorn (p q : PassView E) : Type 0 where
     pub late : 9223372036854775808 ≤ q.look
     pub parts : q ≡ worn p q.look
 
   module _ {B : Type 0} (entries : B → List E) (by : E → ℕ) where
-    -- the pass p found a turn, with the book b, and is then q: it looked at a number below the last, the book begins with the history at the opening and with what it had seen, and is just that where no other pass can have added anything, the book's entries of its number are its own, and the pass from the opening knows that each other entry has the number of a pass that it split off
+    -- the pass p found a turn, with the book b, and is then q
     pub record IsTurn (p q : PassView E) (b : B) : Type 0 where
+      -- it looked at a number below 9,223,372,036,854,775,808
       pub early : q.look < 9223372036854775808
+      -- the book begins with the history at the opening
       pub opened : IsPrefix p.opening (entries b)
+      -- the book begins with what the pass had seen
       pub begins : IsPrefix p.seen (entries b)
+      -- it is just that where no other pass can have added anything
       pub exact : p.number ≡ 0 → p.away ≡ [] → entries b ≡ p.seen
+      -- the entries of the pass's number are those that it added
       pub own : added_by by p.opening p.number (entries b) ≡ p.mine
+      -- to the pass from the opening: each entry has its number or that of a pass that it split off
       pub others : p.number ≡ 0 → All (λ e. by e ≤ p.made) (added p.opening (entries b))
+      -- the ticket that it drew
       pub ticket : ℕ
+      -- what the pass then is
       pub parts : q ≡ entered p q.look ticket (entries b)
 
-  -- what the last pass knows of the whole history: whose entry each one is, in the order in which each pass added its own, and how many tickets were drawn
+  -- what the last pass knows of the whole history: whose entry each one is, in the order in which each pass added its own, and that its look is at most the opening ticket plus its turns
   pub record AccountsFor (by : E → ℕ) (p : PassView E) (history : List E) : Type 0 where
     pub begins : IsPrefix p.opening history
     pub own : added_by by p.opening 0 history ≡ p.mine
@@ -198,6 +222,6 @@ module _ {E : Type 0} where
 abbrev pub Enters : {B E : Type 0} → (B → List E) → (E → ℕ) → View E → View E → B → Type 0
 Enters entries by v w b = (n : ℕ) × (t : ℕ) × (n < 9223372036854775808) × Finds by v (entries b) × (w ≡ after_find (after_draw (after_look v n) t) (entries b))
 
--- between steps: a view looked at a number from which on no ticket is drawn
+-- between steps: a view looked at a number at which no ticket is drawn by it
 abbrev pub LooksLate : {E : Type 0} → View E → View E → Type 0
 LooksLate v w = (n : ℕ) × (9223372036854775808 ≤ n) × (w ≡ after_look v n)

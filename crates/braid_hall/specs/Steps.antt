@@ -19,12 +19,17 @@ abbrev pub carried_history : {B E : Type 0} → (B → List E) → List (ℕ × 
 carried_history entries [] = []
 carried_history entries (x ∷ xs) = slot_history entries x.1
 
--- what a pass learns of the history that it finds: it begins with the history at the opening, and with what the pass had seen, its entries of the pass's number are those that the pass added, and it is just what was seen where the pass from the opening has no other one away, and that pass also knows whose all other entries are
+-- what a pass learns of the history that it finds
 pub record Finds {E : Type 0} (by : E → ℕ) (v : View E) (history : List E) : Type 0 where
+  -- it begins with the history at the opening
   pub opened : IsPrefix v.opening history
+  -- it begins with what the pass had seen
   pub begins : IsPrefix v.seen history
+  -- its entries of the pass's number are those that the pass added
   pub own : added_by by v.opening v.number history ≡ v.mine
+  -- it is just what was seen where the pass from the opening has no other one away
   pub exact : v.number ≡ 0 → v.away ≡ [] → history ≡ v.seen
+  -- to the pass from the opening: each entry has its number or that of a pass that it split off
   pub others : v.number ≡ 0 → All (λ e. by e ≤ v.made) (added v.opening history)
 
 -- some history begins both with what the pass has seen and with the shorter of what it and the pass that it joined last had seen

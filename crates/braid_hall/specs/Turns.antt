@@ -16,16 +16,25 @@ pub record IsQueue (ticket serving : ℕ) (tickets : List (Option ℕ)) : Type 0
   pub apart : (i j k : ℕ) → get_elem? tickets i ≡ some (Some k) → get_elem? tickets j ≡ some (Some k) → i ≡ j
   pub every : (k : ℕ) → serving ≤ k → k < ticket → (j : ℕ) × (get_elem? tickets j ≡ some (Some k))
 
--- the pass from the opening has the place 0 and the number 0, and each pass that it split off has the place of its number; its `away` has the numbers of the other passes that are not spent, and `ended` those of the spent ones, each with the entries of its number, and all other passes have split off none
+-- what the places of the passes have to do with their numbers, and with what the pass from the opening knows of them
 pub record IsNumbered {E : Type 0} (added_of : ℕ → List E) (parts : List (SplitParts E)) : Type 0 where
+  -- the parts of the pass from the opening
   pub root : SplitParts E
+  -- it has the place 0
   pub is_root : get_elem? parts 0 ≡ some root
+  -- it is never spent
   pub lives : root.0 ≡ true
+  -- all others were split off from it
   pub counted : length parts ≡ root.1 + 1
+  -- each other pass that is not spent is away
   pub out : (j : ℕ) (r : SplitParts E) → get_elem? parts j ≡ some r → 0 < j → r.0 ≡ true → Contains root.2 j
+  -- each pass that is away is another one, and not spent
   pub back : (j : ℕ) → Contains root.2 j → (0 < j) × ((r : SplitParts E) × (get_elem? parts j ≡ some r) × (r.0 ≡ true))
+  -- each spent pass has ended, with the entries of its number
   pub gone : (j : ℕ) (r : SplitParts E) → get_elem? parts j ≡ some r → r.0 ≡ false → Contains root.3 (j, added_of j)
+  -- each pass that has ended is spent, and stands there with the entries of its number
   pub only : (j : ℕ) (l : List E) → Contains root.3 (j, l) → ((r : SplitParts E) × (get_elem? parts j ≡ some r) × (r.0 ≡ false)) × (l ≡ added_of j)
+  -- the others have split off none
   pub plain : (j : ℕ) (r : SplitParts E) → get_elem? parts j ≡ some r → 0 < j → (r.1 ≡ 0) × (r.2 ≡ []) × (r.3 ≡ [])
 
 module _ {E : Type 0} (by : E → ℕ) (start : ℕ) (base : List E) where

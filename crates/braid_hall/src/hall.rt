@@ -1,6 +1,6 @@
-ghost use Rattle.std.specs.Prelude.{◌≡◌, ℕ, ◌+◌, ◌<◌, true, false, List, [], IfOk, OnErr, Contains};
+ghost use Rattle.std.specs.Prelude.{◌≡◌, ℕ, ◌+◌, ◌<◌, true, false, [], IfOk, OnErr, Contains};
 ghost use Rattle.atomic_table.specs.Seated.{TableId, table_id_coded};
-ghost use Rattle.braid_hall.specs.Passes.{PassView, IfHeld, IfWorn, IsTurn, IsWorn, AccountsFor, AddsOne, BeginsWithBoth, first_pass, left_with, with_split, new_pass, joined_with};
+ghost use Rattle.braid_hall.specs.Passes.{IfHeld, IfWorn, IsTurn, IsWorn, AccountsFor, AddsOne, BeginsWithBoth, first_pass, left_with, with_split, new_pass, joined_with};
 
 use crate::annals::Annals;
 use crate::pass::Pass;
@@ -144,6 +144,8 @@ impl<B: Annals> Hall<B> {
     }
 
     /// The book, once no other pass is away. It takes no memory.
+    ///
+    /// Its history is what the pass has seen; each later entry is that of the pass that added it.
     pub fn close(self, pass: Pass<B>) -> B
         requires hall { pass.hall ≡ self }
         requires first { pass.number ≡ 0 }

@@ -1,11 +1,11 @@
 //! Laws of the definitions, each the contract of a function that does nothing.
 
-ghost use Rattle.std.specs.Prelude.{◌≡◌, ℕ, ◌+◌, ◌<◌, ◌≤◌, Bool, true, List, length, All};
+ghost use Rattle.std.specs.Prelude.{◌≡◌, ℕ, ◌+◌, ◌<◌, ◌≤◌, true, List, length, All};
 ghost use mathlib.Core.Option.{some};
 ghost use lib.ListN.{get_elem?};
 ghost use Rattle.atomic_table.specs.Table.{State};
 ghost use Rattle.braid_hall.specs.declared.view.View.{View};
-ghost use Rattle.braid_hall.specs.Histories.{IsPrefix, longer_of, shorter_of, added, added_by};
+ghost use Rattle.braid_hall.specs.Histories.{IsPrefix, longer_of, added, added_by};
 ghost use Rattle.braid_hall.specs.Views.{total, ready_of};
 ghost use Rattle.braid_hall.specs.Turns.{IsKept};
 ghost use Rattle.braid_hall.specs.Passes.{PassView, AddsOne, left_with};
@@ -27,6 +27,12 @@ pub fn numbers_differ<B: Annals>()
 /// passes.
 pub fn each_entry_has_a_pass<B: Annals>()
     ensures law { (start : ℕ) (base : List B.Entry) (s : State (Option B) (View B.Entry)) (k : IsKept B.entries B.by start base s) → All (λ e. B.by e < length s.views) (added base k.history) }
+{}
+
+/// Where the rule is kept and the first ticket is below 2^63, tickets end: the next ticket and the number of passes that
+/// are ready to draw make at most 2^63 + 1 and the number of passes that were split off.
+pub fn tickets_end<B: Annals>()
+    ensures law { (start : ℕ) (base : List B.Entry) (s : State (Option B) (View B.Entry)) (k : IsKept B.entries B.by start base s) → start < 9223372036854775808 → k.ticket + total ready_of s.views ≤ 9223372036854775809 + k.rule.numbers.root.1 }
 {}
 
 /// Of two prefixes of one history, both are prefixes of the longer.

@@ -1,6 +1,6 @@
 //! Many passes at once: split off, joined again, and the close after that.
 
-ghost use Rattle.std.specs.Prelude.{◌≡◌, ℕ, false, [], IfOk};
+ghost use Rattle.std.specs.Prelude.{◌≡◌, ℕ, false, [], OnOk, vec_len};
 ghost use Rattle.braid_hall.specs.Many.{AreAway, JoinsAll, SplitsAll, IsClosed};
 
 use crate::annals::Annals;
@@ -9,26 +9,31 @@ use crate::pass::Pass;
 use braid_ids::Memory;
 use std::alloc::Global;
 
-/// Splits off `count` passes, with the numbers from 1 on, from a pass that has split off none.
+/// Splits off `count` passes, with the numbers from 1 on, from a pass that has split off none, into an empty list.
 ///
-/// Errors: `Memory` where there was none. The passes made until then stay away, so the hall cannot be closed.
+/// Errors: `Memory` where there was none. The passes made until then are in the list.
 pub fn split_all<B: Annals>(
     hall: &Hall<B>,
     alloc: Global,
     root: &mut Pass<B>,
+    passes: &mut Vec<Pass<B>>,
     count: u32,
-) -> Result<Vec<Pass<B>>, Memory>
+) -> Result<(), Memory>
     requires hall { root.old.hall ≡ hall.now }
     requires first { root.old.number ≡ 0 }
     requires none_made { (root.old.made ≡ 0) × (root.old.away ≡ []) }
     requires idle { root.old.held ≡ false }
-    ensures ok { IfOk result (λ passes. SplitsAll hall.now root.old count root.new passes.items) }
+    requires empty { passes.old.items ≡ [] }
+    ensures made { SplitsAll hall.now root.old (vec_len passes.new) root.new passes.new.items }
+    ensures ok { OnOk result (vec_len passes.new ≡ count) }
 {
-    let mut passes = Vec::new(alloc);
     for _ in 0..count {
-        passes.push(hall.split(alloc, root)?)?;
+        passes.reserve(1)?;
+        let pass = hall.split(alloc, root)?;
+        let kept = passes.push(pass);
+        prove!(kept.is_ok());
     }
-    Ok(passes)
+    Ok(())
 }
 
 /// Joins all passes that are away, the last one first. It takes no memory.

@@ -1,6 +1,6 @@
 //! The single steps of a turn, each a load or a fetch-and-add on one of the two words.
 
-ghost use Rattle.std.specs.Prelude.{◌≡◌, ◌≢◌, ℕ, ◌+◌, ◌<◌, true, false, [], ◌∷◌, Some, None};
+ghost use Rattle.std.specs.Prelude.{◌≡◌, ◌≢◌, ℕ, ◌<◌, true, false, [], ◌∷◌, Some, None};
 ghost use Rattle.braid_hall.specs.Steps.{Finds, BeginsBoth};
 ghost use Rattle.braid_hall.specs.Histories.{IsPrefix};
 ghost use Rattle.braid_hall.specs.Views.{after_look, after_draw, after_find, after_leave, after_join};
@@ -14,7 +14,7 @@ use crate::view::View;
 use atomic_table::Seat;
 use std::sync::Wait;
 
-/// The first number that is no ticket to draw.
+/// The first number at which a pass draws no ticket.
 const WORN: u64 = 1 << 63;
 
 impl<B: Annals> Hall<B> {
@@ -64,7 +64,7 @@ impl<B: Annals> Hall<B> {
         }
     }
 
-    // Looks, draws and waits. The slot is then empty in the hands of the seat.
+    // Looks, draws and waits. The slot that the seat took is then empty.
     pub(crate) fn turn<R: Wait>(
         &self,
         rt: &R,

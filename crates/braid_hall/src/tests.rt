@@ -1,4 +1,4 @@
-ghost use Rattle.std.specs.Prelude.{◌≡◌, ℕ, ◌<◌, false, length};
+ghost use Rattle.std.specs.Prelude.{◌≡◌, ℕ, ◌<◌, false};
 ghost use Rattle.braid_hall.specs.Many.{AreAway, KeepsPass};
 
 use crate::{Annals, Hall, Job, Pass, Turn, close_all, run_all, split_all};
@@ -99,7 +99,8 @@ fn has_each_turn(notes: &[Note], by: u32) -> bool {
 #[test]
 fn four_threads_add_each_entry_once_and_in_order(rt: HostRuntime) -> Result<(), Memory> {
     let (hall, mut root) = Hall::open(rt.alloc(), no_notes(rt.alloc()))?;
-    let mut passes = split_all(&hall, rt.alloc(), &mut root, 4)?;
+    let mut passes = Vec::new(rt.alloc());
+    split_all(&hall, rt.alloc(), &mut root, &mut passes, 4)?;
     run_threads(&rt, &hall, &root, passes.as_mut_slice());
     let book = close_all(hall, root, passes);
     assert!(rt; book.items.len() == 4 * TURNS as usize);

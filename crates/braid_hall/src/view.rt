@@ -12,7 +12,7 @@ pub struct View<E> {
     pub held: bool,
     /// How many tickets were drawn by it and by passes joined into it.
     pub turns: u64,
-    /// What it, or a pass joined into it, last saw as the next ticket.
+    /// What it last saw as the next ticket, or a greater number that a pass joined into it saw.
     pub look: u64,
     /// Whether it may draw a ticket.
     pub ready: bool,
