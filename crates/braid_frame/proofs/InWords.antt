@@ -1,5 +1,5 @@
 -- A chain, update by update: what stands before each of them.
-use Rattle.std.proofs.Common.{◌≡◌, ◌≢◌, ℕ, List, [], ◌∷◌, ◌++◌, ◌↔◌, refl, ap, sym, ◌∙◌, append_assoc, append-nil, All}
+use Rattle.std.proofs.Common.{◌≡◌, ◌≢◌, List, [], ◌∷◌, ◌++◌, ◌↔◌, refl, ap, append_assoc, append-nil, All}
 use Rattle.braid_change.specs.Updates.{UpdateView}
 use Rattle.braid_frame.specs.Chains.{IsPlain, last_id, IsChainFrom, IsChain}
 

@@ -15,6 +15,12 @@ const LONGEST_CONTENT: u64 = 1_048_576;
 
 /// Reads the chain that all of the bytes spell: its updates, in their order.
 ///
+/// An update is spelled by a field line `Version`, whose value is a list of one String, a field line `Parents`, whose
+/// value is a list of Strings, a field line `Content-Length`, whose value is the number of the body's bytes in decimal
+/// without leading zeros, at most 1,048,576, an empty line that ends in CRLF, and the body in UTF-8. A field line ends
+/// in LF or CRLF, and its name may be in any case. CRLF CRLF stands between two updates, and may stand after the last.
+/// The text has at most 16,777,216 bytes.
+///
 /// The look-up of repeated identifiers goes through all updates so far, so it costs the square of their number.
 ///
 /// Errors: `NotYet` exactly where the bytes are no chain text, or `Memory`. Nothing is kept then.
@@ -43,10 +49,7 @@ fn read_updates(alloc: Global, bytes: &[u8]) -> Result<Vec<Update>, ChainFault>
         let Ok(parents) = parents_after(alloc, &updates) else {
             return Err(ChainFault::Memory);
         };
-        let (update, end) = match read_update(alloc, parents, rest) {
-            Ok(found) => found,
-            Err(fault) => return Err(fault),
-        };
+        let (update, end) = read_update(alloc, parents, rest)?;
         if !is_new(&updates, update.id()) {
             return Err(ChainFault::NotYet);
         }
@@ -75,10 +78,7 @@ fn read_update(
     ensures found { IfOk result (λ found. IsPlain found.0 × (found.0.parents ≡ parents) × Begins (SpellsUpdate found.0) bytes.now found.1.now) }
     ensures not_yet { IsErrOf result ChainFault.NotYet → (u : UpdateView) (rest : List ℕ) → IsPlain u → u.parents ≡ parents → Begins (SpellsUpdate u) bytes.now rest → ⊥ }
 {
-    let (id, len, body) = match head(alloc, &parents, bytes) {
-        Ok(found) => found,
-        Err(fault) => return Err(fault),
-    };
+    let (id, len, body) = head(alloc, &parents, bytes)?;
     if len > LONGEST_CONTENT || len > body.len() as u64 {
         return Err(ChainFault::NotYet);
     }

@@ -19,10 +19,7 @@ fn version_line(alloc: Global, bytes: &[u8]) -> Result<(Id, &[u8]), ChainFault>
     let Some((value, rest)) = line_of(b"Version", bytes) else {
         return Err(ChainFault::NotYet);
     };
-    match id_of(alloc, value) {
-        Ok(id) => Ok((id, rest)),
-        Err(fault) => Err(fault),
-    }
+    Ok((id_of(alloc, value)?, rest))
 }
 
 /// The bytes after the Parents line of these parents.
@@ -38,10 +35,7 @@ fn parents_line<'a>(
     let Some((value, rest)) = line_of(b"Parents", bytes) else {
         return Err(ChainFault::NotYet);
     };
-    let strings = match strings_of(alloc, value) {
-        Ok(strings) => strings,
-        Err(fault) => return Err(fault),
-    };
+    let strings = strings_of(alloc, value)?;
     if !are_parents(&strings, parents) {
         return Err(ChainFault::NotYet);
     }
@@ -72,14 +66,8 @@ pub fn head<'a>(
     ensures found { IfOk result (λ found. IsIdentifier found.0 × (found.1 < 2 ^ 64) × Begins (IsHead found.0 parents.now found.1) bytes.now found.2.now) }
     ensures not_yet { IsErrOf result ChainFault.NotYet → (id : List ℕ) (n : ℕ) (rest : List ℕ) → IsIdentifier id → n < 2 ^ 64 → Begins (IsHead id parents.now n) bytes.now rest → ⊥ }
 {
-    let (id, start) = match version_line(alloc, bytes) {
-        Ok(found) => found,
-        Err(fault) => return Err(fault),
-    };
-    let end = match parents_line(alloc, parents, start) {
-        Ok(end) => end,
-        Err(fault) => return Err(fault),
-    };
+    let (id, start) = version_line(alloc, bytes)?;
+    let end = parents_line(alloc, parents, start)?;
     let Some((n, blank)) = length_line(end) else {
         return Err(ChainFault::NotYet);
     };

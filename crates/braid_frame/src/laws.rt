@@ -2,7 +2,13 @@
 
 ghost use Rattle.std.specs.Prelude.{◌≡◌, ◌≢◌, ◌↔◌, ◌∷◌, ◌++◌, List, ℕ, All};
 ghost use Rattle.braid_change.specs.Updates.{UpdateView};
+ghost use Rattle.braid_frame.specs.Fields.{Begins, IsFieldLine};
 ghost use Rattle.braid_frame.specs.Chains.{IsChain, IsPlain, SpellsChain, last_id};
+
+/// No bytes begin with two field lines: what has the same bytes has the same name, the same value and the same end.
+pub fn one_line()
+    ensures law { (a b v w bytes x y : List ℕ) → Begins (IsFieldLine a v) bytes x → Begins (IsFieldLine b w) bytes y → (a ≡ b) × (v ≡ w) × (x ≡ y) }
+{}
 
 /// No bytes spell two chains.
 pub fn one_reading()

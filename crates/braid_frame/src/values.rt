@@ -45,10 +45,7 @@ pub fn id_of(alloc: Global, value: &[u8]) -> Result<Id, ChainFault>
     ensures ok { IfOk result (λ id. IsIdentifier id × SpellsStrings (id ∷ []) value.now) }
     ensures not_yet { IsErrOf result ChainFault.NotYet → (id : List ℕ) → IsIdentifier id → SpellsStrings (id ∷ []) value.now → ⊥ }
 {
-    let strings = match strings_of(alloc, value) {
-        Ok(strings) => strings,
-        Err(fault) => return Err(fault),
-    };
+    let strings = strings_of(alloc, value)?;
     let Some((string, others)) = strings.as_slice().split_first() else {
         return Err(ChainFault::NotYet);
     };
