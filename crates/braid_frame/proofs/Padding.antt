@@ -1,11 +1,11 @@
 -- A value is found in one way between the spaces and tabs around it.
-use Rattle.std.proofs.Common.{◌≡◌, ℕ, Bool, true, false, List, [], ◌∷◌, ◌++◌, length, refl, sym, ap, ◌∙◌, subst, append-nil, append_assoc}
+use Rattle.std.proofs.Common.{◌≡◌, ℕ, Bool, true, false, List, [], ◌∷◌, ◌++◌, length, drop, refl, sym, ap, ◌∙◌, subst, append-nil, append_assoc}
 use Rattle.std.proofs.lemmas.List.{nil_from_length}
-use Rattle.std.specs.List.{list_all}
+use Rattle.std.specs.List.{list_all, prefix_len}
 use Rattle.std.proofs.lemmas.Bool.{and_parts}
 use Rattle.braid_shelf.specs.ByteClasses.{Are, begins, is_blank}
-use Rattle.braid_shelf.specs.Reading.{after}
-use Rattle.braid_shelf.proofs.Passing.{after_is, Are-append}
+use Rattle.braid_shelf.specs.Reading.{front_of, after}
+use Rattle.braid_shelf.proofs.Passing.{front_after, front_passes, after_stops, after_is, Are-append}
 use Rattle.braid_frame.specs.Fields.{ends, IsPadded}
 use Rattle.braid_frame.specs.Cuts.{FollowsBlanks, EndsInBlanks}
 
@@ -118,3 +118,13 @@ behind_end bytes rest front last e h b =
 
 pub behind_none : (bytes rest : List ℕ) → length rest ≡ 0 → BlanksBehind bytes rest → EndsInBlanks bytes rest
 behind_none bytes rest e b = record { blanks = b.blanks; are_blank = b.are_blank; stops = ap (ends is_blank) (nil_from_length rest e); cut = b.cut }
+
+pub passed_before : (bytes rest : List ℕ) (count : ℕ) → count ≡ prefix_len is_blank bytes → rest ≡ drop count bytes → FollowsBlanks bytes rest
+passed_before bytes rest count c r =
+    let same : rest ≡ after is_blank bytes = r ∙ ap (λ n. drop n bytes) c in
+    record {
+      blanks = front_of is_blank bytes;
+      are_blank = front_passes is_blank bytes;
+      stops = ap (begins is_blank) same ∙ after_stops is_blank bytes;
+      cut = sym (front_after is_blank bytes) ∙ ap (λ x. front_of is_blank bytes ++ x) (sym same);
+    }

@@ -1,7 +1,7 @@
 //! Field lines: a name, a colon and a value.
 
-ghost use Rattle.std.specs.Prelude.{◌≡◌, ◌↔◌, List, ℕ, MatchOption, IsTrue};
-ghost use Rattle.std.specs.List.{list_all};
+ghost use Rattle.std.specs.Prelude.{◌≡◌, ◌≤◌, ◌↔◌, List, ℕ, length, MatchOption, IsTrue};
+ghost use Rattle.std.specs.List.{list_all, prefix_len};
 ghost use Rattle.braid_shelf.specs.ByteClasses.{is_blank};
 ghost use Rattle.braid_frame.specs.Fields.{Begins, is_in_name, IsName, is_in_value, IsPadded, IsField, IsFieldLine, IsLineOf};
 ghost use Rattle.braid_frame.specs.Cuts.{FollowsBlanks, EndsInBlanks, CutsEnd};
@@ -53,12 +53,19 @@ fn is_blank(byte: u8) -> bool
     byte == b' ' || byte == b'\t'
 }
 
+/// The number of spaces and tabs that the bytes begin with.
+fn blanks_len(bytes: &[u8]) -> usize
+    ensures count { result ≡ prefix_len is_blank bytes.now }
+    ensures within { result ≤ length bytes.now }
+{
+    bytes.iter().take_while(|byte| is_blank(**byte)).count()
+}
+
 /// The bytes after the spaces and tabs that they begin with.
 fn without_blanks_before(bytes: &[u8]) -> &[u8]
     ensures { FollowsBlanks bytes.now result.now }
 {
-    let count = bytes.iter().take_while(|byte| is_blank(**byte)).count();
-    let (_, rest) = bytes.split_at(count);
+    let (_, rest) = bytes.split_at(blanks_len(bytes));
     rest
 }
 
