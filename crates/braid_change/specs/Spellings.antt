@@ -1,21 +1,16 @@
 -- The canonical spelling of an update, line by line, and the digest of many.
 use Rattle.std.specs.Prelude.{ℕ, List, [], ◌∷◌, ◌++◌, length, flat_map, codes, decimal, encode_utf8_all}
-use Rattle.braid_ids.specs.Identifiers.{spelled_id}
+use Rattle.braid_ids.specs.Identifiers.{spelled_id, spelled_ids}
 use Rattle.sha2.specs.Sha256.{sha256}
 use Rattle.braid_change.specs.Updates.{UpdateView}
 use Rattle.braid_change.specs.declared.patch.Patch.{Patch}
 use Rattle.braid_change.specs.declared.change.Change.{Change}
 use Rattle.braid_change.specs.declared.change.Change.TheVariants.{Body, Patches}
 
--- identifiers as a List of Strings (RFC 8941, section 3.1), each after the first behind a comma and a space
-abbrev pub id_list : List (List ℕ) → List ℕ
-id_list [] = []
-id_list (id ∷ ids) = spelled_id id ++ flat_map (λ next. codes ", " ++ spelled_id next) ids
-
 -- what follows `Parents:`: nothing where there are none, else a space and their list
 abbrev pub parents_text : List (List ℕ) → List ℕ
 parents_text [] = []
-parents_text (id ∷ ids) = codes " " ++ id_list (id ∷ ids)
+parents_text (id ∷ ids) = codes " " ++ spelled_ids (id ∷ ids)
 
 -- the line of a text's length, without its end
 abbrev pub length_text : List ℕ → List ℕ

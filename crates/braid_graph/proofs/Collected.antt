@@ -12,7 +12,7 @@ use Rattle.braid_graph.specs.Frontiers.{IsFrontierOf, is_head, heads_of}
 use Rattle.braid_graph.specs.Inside.{entries_in, IsKept}
 use Rattle.braid_graph.specs.declared.links.Links.{Links}
 use Rattle.braid_graph.proofs.Frontiers.{head_found, head_there, fold-map}
-use Rattle.braid_graph.proofs.Members.{no_gap}
+use Rattle.braid_ids.proofs.Members.{no_gap}
 
 pub ids_length : (es : List GraphEntry) → length (ids_of es) ≡ length es
 ids_length es = length-map es (λ (t : GraphEntry). t.id)

@@ -8,8 +8,9 @@ use Rattle.braid_ids.specs.Identifiers.{id_cmp}
 use Rattle.braid_graph.specs.Entries.{GraphEntry, ids_of, IsHistoryGraph, has_id}
 use Rattle.braid_graph.specs.Frontiers.{IsParent, is_parent, is_head}
 use Rattle.braid_graph.specs.Inside.{IsNumberOf, cleared}
-use Rattle.braid_graph.proofs.Members.{Member, contains_member, member_contains, place_of}
-use Rattle.braid_graph.proofs.Ids.{eq_itself, same_or_not, id_member, member_id}
+use Rattle.braid_ids.proofs.Members.{Member, contains_member, member_contains, place_of}
+use Rattle.braid_ids.proofs.Ids.{eq_itself, same_or_not}
+use Rattle.braid_graph.proofs.Ids.{id_member, member_id}
 use Rattle.braid_graph.proofs.Newest.{one_number}
 
 or_cases : (a b : Bool) → (a || b) ≡ true → (a ≡ true) ⊎ (b ≡ true)

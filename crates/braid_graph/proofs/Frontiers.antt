@@ -5,10 +5,10 @@ use Rattle.std.proofs.lemmas.List.Sums.{length-filter}
 use Rattle.braid_ids.proofs.Rising.{rising_same}
 use Rattle.braid_graph.specs.Entries.{GraphEntry, ids_of, Holds, IsHistoryGraph, SameEntries}
 use Rattle.braid_graph.specs.Frontiers.{IsParent, IsFrontierOf, is_head, heads_of, frontier_of}
-use Rattle.braid_graph.proofs.Members.{Member, contains_member, member_contains, place_of}
+use Rattle.braid_ids.proofs.Members.{Member, contains_member, member_contains, place_of}
 use Rattle.braid_graph.proofs.Newest.{entry_id, id_entry, one_number}
 use Rattle.braid_graph.proofs.Flags.{head_no_parent, no_parent_head}
-use Rattle.braid_graph.proofs.Rising.{AllDistinct, member_rising, member_from_rising, length_rising, rises_ids}
+use Rattle.braid_ids.proofs.Inserted.{AllDistinct, member_rising, member_from_rising, length_rising, rises_ids}
 
 distinct_from : (vs : List (List ℕ)) → ((v : List ℕ) (i j : ℕ) → slice_get vs i ≡ Some v → slice_get vs j ≡ Some v → i ≡ j) → AllDistinct vs
 distinct_from [] one = tt

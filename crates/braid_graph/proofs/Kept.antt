@@ -15,7 +15,7 @@ use Rattle.braid_graph.specs.Levels.{greatest_by, level_of}
 use Rattle.braid_graph.specs.Frontiers.{is_head, frontier_of}
 use Rattle.braid_graph.specs.Inside.{entries_in, IsNumberOf, IsLinked, IsKept, cleared}
 use Rattle.braid_graph.specs.declared.links.Links.{Links}
-use Rattle.braid_graph.proofs.Members.{Member, member_contains, kept_place, no_gap}
+use Rattle.braid_ids.proofs.Members.{Member, member_contains, kept_place, no_gap}
 use Rattle.braid_graph.proofs.Newest.{entry_id, entry_at, history_push, parents_held}
 use Rattle.braid_graph.proofs.Levels.{greatest_push, level_push, level_pushed, level_length}
 use Rattle.braid_graph.proofs.Flags.{no_parent_head, heads_push}

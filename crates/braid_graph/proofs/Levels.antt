@@ -7,8 +7,9 @@ use Rattle.braid_ids.specs.Identifiers.{id_cmp}
 use Rattle.braid_graph.specs.Entries.{GraphEntry, ids_of, Holds, IsHistoryGraph, SameEntries}
 use Rattle.braid_graph.specs.Ancestries.{IsAncestor, named, parent}
 use Rattle.braid_graph.specs.Levels.{greatest_by, level_in, level_of}
-use Rattle.braid_graph.proofs.Members.{Member, contains_member, member_contains, member_reverse, member_from_reverse}
-use Rattle.braid_graph.proofs.Ids.{same_or_not, eq_itself, member_or_not}
+use Rattle.braid_ids.proofs.Members.{Member, contains_member, member_contains, member_reverse, member_from_reverse}
+use Rattle.braid_ids.proofs.Ids.{same_or_not, eq_itself}
+use Rattle.braid_graph.proofs.Ids.{member_or_not}
 use Rattle.braid_graph.proofs.Newest.{IsNewestFirst, entry_id, id_entry, newest_first, held_parents, ids_from_reverse}
 
 pub greatest_agree : (f g : List ℕ → ℕ) (F : List (List ℕ)) → ((v : List ℕ) → Member v F → f v ≡ g v) → greatest_by f F ≡ greatest_by g F

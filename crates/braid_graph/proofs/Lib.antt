@@ -1,11 +1,9 @@
-pub mod Members
 pub mod Ids
 pub mod Newest
 pub mod Walk
 pub mod Levels
 pub mod Numbers
 pub mod Flags
-pub mod Rising
 pub mod Frontiers
 pub mod Kept
 pub mod Collected

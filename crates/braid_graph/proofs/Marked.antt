@@ -10,7 +10,7 @@ use Rattle.braid_graph.specs.Entries.{GraphEntry, ids_of, Holds, HoldsAll, IsHis
 use Rattle.braid_graph.specs.Ancestries.{IsAncestor, named, parent, Covers, MarksAncestry}
 use Rattle.braid_graph.specs.Inside.{IsNumberOf, IsLinked, IsKept, IsParentNumber, MarksMembers, AllMarked}
 use Rattle.braid_graph.specs.declared.links.Links.{Links}
-use Rattle.braid_graph.proofs.Members.{Member, contains_member, member_contains, member_at, place_of}
+use Rattle.braid_ids.proofs.Members.{Member, contains_member, member_contains, member_at, place_of}
 use Rattle.braid_graph.proofs.Newest.{id_at, entry_at, one_number}
 use Rattle.braid_graph.proofs.Walk.{least}
 use Rattle.braid_graph.proofs.Kept.{take_next, zip_at, zip_length}

@@ -5,7 +5,7 @@ use Rattle.std.proofs.lemmas.List.{take-append-le, take_at, reverse-reverse, rev
 use Rattle.std.proofs.lemmas.Option.{slice_get_within, none-some, same_Some}
 use Rattle.std.proofs.lemmas.Bool.{cases_lt}
 use Rattle.braid_graph.specs.Entries.{GraphEntry, ids_of, Holds, HoldsAll, IsHistoryGraph}
-use Rattle.braid_graph.proofs.Members.{Member, contains_member, member_contains, member_map, member_from_map, member_reverse, member_from_reverse, member_at, slice_get-append_left, slice_get_push, slice_get-take, kept_place}
+use Rattle.braid_ids.proofs.Members.{Member, contains_member, member_contains, member_map, member_from_map, member_reverse, member_from_reverse, member_at, slice_get-append_left, slice_get_push, slice_get-take, kept_place}
 
 abbrev pub IsNewestFirst : List GraphEntry → Type 0
 IsNewestFirst [] = Unit {0}

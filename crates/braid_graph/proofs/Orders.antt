@@ -5,7 +5,7 @@ use Rattle.braid_graph.specs.Entries.{GraphEntry, HoldsAll, IsHistoryGraph, Same
 use Rattle.braid_graph.specs.Ancestries.{IsAncestor, IsClosed, ancestry_of}
 use Rattle.braid_graph.specs.Levels.{level_of}
 use Rattle.braid_graph.specs.Orders.{SameAnswers}
-use Rattle.braid_graph.proofs.Members.{contains_member}
+use Rattle.braid_ids.proofs.Members.{contains_member}
 use Rattle.braid_graph.proofs.Walk.{least, same_ancestry, walk_sound, walk_complete}
 use Rattle.braid_graph.proofs.Levels.{below_frontier, same_levels}
 use Rattle.braid_graph.proofs.Frontiers.{held_same, same_frontiers}

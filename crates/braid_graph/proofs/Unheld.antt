@@ -10,8 +10,8 @@ use Rattle.braid_ids.specs.declared.unknown.Unknown.TheVariants.{Id, Memory}
 use Rattle.braid_graph.specs.Entries.{GraphEntry, ids_of, Holds, HoldsAll}
 use Rattle.braid_graph.specs.Ancestries.{IsLeastUnheld, IsUnknown, NamesUnknown}
 use Rattle.braid_graph.specs.Inside.{IsLeastOf, lesser_of}
-use Rattle.braid_graph.proofs.Members.{contains_member, member_contains, member_at}
-use Rattle.braid_graph.proofs.Ids.{id_same, id_itself}
+use Rattle.braid_ids.proofs.Members.{contains_member, member_contains, member_at}
+use Rattle.braid_ids.proofs.Ids.{id_same, id_itself}
 use Rattle.braid_graph.proofs.Kept.{take_next}
 
 -- what is not below another is not above what the other is not above

@@ -3,7 +3,7 @@ use Rattle.std.proofs.Common.{◌≡◌, ℕ, List, [], ◌∷◌, ◌++◌, Boo
 use Rattle.std.specs.List.{Contains}
 use Rattle.braid_graph.specs.Entries.{GraphEntry, ids_of, Holds, HoldsAll, IsHistoryGraph, has_id}
 use Rattle.braid_graph.specs.Ancestries.{IsAncestor, named, parent, IsClosed, IsAncestry, ancestry_in, ancestry_of}
-use Rattle.braid_graph.proofs.Members.{Member, contains_member, member_contains, member_append_left, member_append_right, member_append_cases, member_reverse, member_from_reverse}
+use Rattle.braid_ids.proofs.Members.{Member, contains_member, member_contains, member_append_left, member_append_right, member_append_cases, member_reverse, member_from_reverse}
 use Rattle.braid_graph.proofs.Ids.{id_member, member_id}
 use Rattle.braid_graph.proofs.Newest.{IsNewestFirst, entry_id, newest_first, ids_reverse, parents_held}
 

@@ -1,4 +1,4 @@
--- What bytes an identifier may have, which fault bytes have that are none, and how an identifier is spelled.
+-- What bytes an identifier may have, which fault bytes have that are none, and how identifiers are spelled.
 use Rattle.std.specs.Prelude.{◌≡◌, ℕ, ◌<◌, ◌≤◌, ◌||◌, ◌==◌, if◌then◌else◌, List, [], ◌∷◌, ◌++◌, length, slice_index, flat_map}
 use Rattle.std.specs.Ordering.{nat_cmp}
 use Rattle.std.specs.declared.cmp.Ordering.{Ordering}
@@ -36,3 +36,8 @@ escaped byte = if (byte == 34) || (byte == 92) then 92 ∷ byte ∷ [] else (byt
 -- an identifier as a String of a header list
 abbrev pub spelled_id : List ℕ → List ℕ
 spelled_id id = 34 ∷ flat_map escaped id ++ 34 ∷ []
+
+-- identifiers as a List of Strings (RFC 8941, section 3.1): each after the first behind a comma and a space
+abbrev pub spelled_ids : List (List ℕ) → List ℕ
+spelled_ids [] = []
+spelled_ids (id ∷ ids) = spelled_id id ++ flat_map (λ other. 44 ∷ 32 ∷ spelled_id other) ids

@@ -80,6 +80,12 @@ fn byte_lists_grow_at_their_end(rt: HostRuntime) -> Result<(), Fail> {
     let mut bytes = Bytes::of(rt.alloc(), b"ab")?;
     bytes.push(b"c")?;
     assert!(rt; bytes.get() == b"abc".as_slice());
+    let mut list = ListBytes::new(rt.alloc());
+    list.push(bytes)?;
+    list.push(Bytes::of(rt.alloc(), b"d")?)?;
+    assert_eq!(rt; list.get().len(), 2);
+    assert!(rt; list.get()[0].get() == b"abc".as_slice());
+    assert!(rt; list.get()[1].get() == b"d".as_slice());
     let word = Word::of(rt.alloc(), b"check")?;
     assert!(rt; word.get() == b"check".as_slice());
     Ok(())

@@ -3,7 +3,7 @@ use Rattle.std.proofs.Common.{◌≡◌, ℕ, suc, ◌-◌, ◌<◌, ◌≤◌, 
 use Rattle.std.specs.List.{AllByRecursion}
 use Rattle.std.proofs.lemmas.Bool.{and_from, le-leb}
 use Rattle.std.proofs.lemmas.List.{append-nil}
-use Rattle.braid_ids.specs.Identifiers.{IsIdentifier, IsPrintable, spelled_id}
+use Rattle.braid_ids.specs.Identifiers.{IsIdentifier, IsPrintable, spelled_id, spelled_ids}
 use Rattle.braid_shelf.specs.declared.fault.ShelfKind.TheVariants.{NotString}
 use Rattle.braid_shelf.specs.declared.fault.ShelfFault.{ShelfFault}
 use Rattle.braid_shelf.specs.declared.fault.ShelfFault.TheVariants as faults
@@ -12,7 +12,7 @@ use Rattle.braid_shelf.specs.declared.item.Item.TheVariants as items
 use Rattle.braid_shelf.specs.declared.param.Param.{Param}
 use Rattle.braid_shelf.specs.declared.member.Member.{Member}
 use Rattle.braid_shelf.specs.ByteClasses.{Are, is_printable}
-use Rattle.braid_shelf.specs.Lists.{string, SpellsMember, SpellsBeforeComma, SpellsFollowed, StandsBehind, SpellsList, empty, full, is_string, AreStrings, string_member, text_of, strings_in, spelled_strings}
+use Rattle.braid_shelf.specs.Lists.{string, SpellsMember, SpellsBeforeComma, SpellsFollowed, StandsBehind, SpellsList, empty, full, is_string, AreStrings, string_member, text_of, strings_in}
 use Rattle.braid_shelf.specs.Faults as kinds
 use Rattle.braid_shelf.specs.Faults.{IsShelfFault, IsStringsFault, IsStringsShelfFault, IsNotString}
 use Rattle.braid_shelf.specs.Stops.{IsOther}
@@ -83,7 +83,7 @@ record Parts (id : List ℕ) (ids : List (List ℕ)) : Type 0 where
   members : map string_member (id ∷ ids) ≡ before ++ last ∷ []
   followed : SpellsFollowed before front
   last_spelled : SpellsMember last text
-  spelled : spelled_strings (id ∷ ids) ≡ front ++ text
+  spelled : spelled_ids (id ∷ ids) ≡ front ++ text
 
 parts : (id : List ℕ) (ids : List (List ℕ)) → AllByRecursion IsIdentifier (id ∷ ids) → Parts id ids
 parts id [] h = record { before = []; last = string_member id; front = []; text = spelled_id id; members = refl; followed = refl; last_spelled = id_member id h.0; spelled = append-nil (spelled_id id) }
@@ -102,10 +102,10 @@ parts id (other ∷ ids) h =
       spelled = ap (λ x. spelled_id id ++ 44 ∷ 32 ∷ x) later.spelled ∙ sym (append_assoc (spelled_id id) (44 ∷ 32 ∷ []) (later.front ++ later.text)) ∙ sym (append_assoc (spelled_id id ++ 44 ∷ 32 ∷ []) later.front later.text);
     }
 
-pub ids_listed : (ids : List (List ℕ)) → AllByRecursion IsIdentifier ids → SpellsList (map string_member ids) (spelled_strings ids)
+pub ids_listed : (ids : List (List ℕ)) → AllByRecursion IsIdentifier ids → SpellsList (map string_member ids) (spelled_ids ids)
 ids_listed [] h = empty [] tt
 ids_listed (id ∷ ids) h =
     let p = parts id ids h in
-    let behind : StandsBehind p.before (spelled_strings (id ∷ ids)) (p.text ++ []) =
+    let behind : StandsBehind p.before (spelled_ids (id ∷ ids)) (p.text ++ []) =
     record { spaces = []; front = p.front; are_spaces = tt; front_spelled = p.followed; cut = p.spelled ∙ ap (λ x. p.front ++ x) (sym (append-nil p.text)) } in
-    subst (λ (x : List Member). SpellsList x (spelled_strings (id ∷ ids))) (sym p.members) (full p.before p.last (spelled_strings (id ∷ ids)) p.text [] behind p.last_spelled tt)
+    subst (λ (x : List Member). SpellsList x (spelled_ids (id ∷ ids))) (sym p.members) (full p.before p.last (spelled_ids (id ∷ ids)) p.text [] behind p.last_spelled tt)

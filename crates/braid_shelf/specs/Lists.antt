@@ -130,11 +130,6 @@ AreStrings members = AllByRecursion (λ member. is_string member ≡ true) membe
 abbrev pub count_member : ℕ → Member
 count_member number = record { item = items.Int (pos number); params = [] }
 
--- identifiers as Strings, with a comma and a space between them
-abbrev pub spelled_strings : List (List ℕ) → List ℕ
-spelled_strings [] = []
-spelled_strings (id ∷ ids) = spelled_id id ++ flat_map (λ other. 44 ∷ 32 ∷ spelled_id other) ids
-
 -- the texts of the members that are Strings
 abbrev pub text_of : Item → List (List ℕ)
 text_of (items.Str text) = text ∷ []

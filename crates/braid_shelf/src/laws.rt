@@ -2,10 +2,10 @@
 
 ghost use Rattle.std.specs.Prelude.{◌≡◌, ◌⊎◌, ◌∷◌, [], List, ℕ, map};
 ghost use Rattle.std.specs.List.{AllByRecursion};
-ghost use Rattle.braid_ids.specs.Identifiers.{IsIdentifier};
+ghost use Rattle.braid_ids.specs.Identifiers.{IsIdentifier, spelled_ids};
 ghost use Rattle.braid_shelf.specs.declared.fault.ShelfKind.{ShelfKind};
 ghost use Rattle.braid_shelf.specs.declared.member.Member.{Member};
-ghost use Rattle.braid_shelf.specs.Lists.{SpellsList, string_member, count_member, spelled_strings};
+ghost use Rattle.braid_shelf.specs.Lists.{SpellsList, string_member, count_member};
 ghost use Rattle.braid_shelf.specs.Faults.{IsListFault, IsStringsFault, IsCountFault};
 
 /// A value is a list of at most one list of members.
@@ -35,7 +35,7 @@ pub fn one_of_both()
 /// Identifiers with a comma and a space between them are the list of them as Strings.
 pub fn identifiers_are_listed()
     ensures law { (ids : List (List ℕ))
-        → AllByRecursion IsIdentifier ids → SpellsList (map string_member ids) (spelled_strings ids) }
+        → AllByRecursion IsIdentifier ids → SpellsList (map string_member ids) (spelled_ids ids) }
 {}
 
 /// A value that is no list of Strings has one place and one kind of fault, and one that is has none.

@@ -1,6 +1,6 @@
 ghost use Rattle.std.specs.Prelude.{◌≡◌, IfOk, map};
-ghost use Rattle.braid_ids.specs.Identifiers.{IsIdentifier, spelled_id};
-ghost use Rattle.braid_shelf.specs.Lists.{SpellsList, string_member, spelled_strings};
+ghost use Rattle.braid_ids.specs.Identifiers.{IsIdentifier, spelled_id, spelled_ids};
+ghost use Rattle.braid_shelf.specs.Lists.{SpellsList, string_member};
 
 use braid_ids::{Bytes, Frontier, Id, Memory};
 use std::alloc::Global;
@@ -19,7 +19,7 @@ fn spell(alloc: Global, id: &Id) -> Result<Bytes, Memory>
 ///
 /// Errors: `Memory` where there was none for the value.
 pub fn write_strings(alloc: Global, list: &Frontier) -> Result<Bytes, Memory>
-    ensures ok { IfOk result (λ value. value ≡ spelled_strings list.now) }
+    ensures ok { IfOk result (λ value. value ≡ spelled_ids list.now) }
     ensures list { IfOk result (λ value. SpellsList (map string_member list.now) value) }
 {
     let mut value = Bytes::of(alloc, b"")?;

@@ -2,8 +2,8 @@ use Rattle.std.proofs.Common.{◌≡◌, [], ◌∷◌, ◌++◌, ◌<◌, ◌�
 use Rattle.std.specs.Prelude.{slice_get}
 use Rattle.std.specs.List.{AllByRecursion}
 use Rattle.std.proofs.lemmas.List.{take_all}
-use Rattle.braid_ids.specs.Identifiers.{IsIdentifier}
-use Rattle.braid_shelf.specs.Lists.{SpellsList, string_member, spelled_strings}
+use Rattle.braid_ids.specs.Identifiers.{IsIdentifier, spelled_ids}
+use Rattle.braid_shelf.specs.Lists.{SpellsList, string_member}
 use Rattle.braid_shelf.proofs.Written.{written_more, more_valid, none_left}
 use Rattle.braid_shelf.proofs.Listed.{ids_listed}
 use Rattle.braid_shelf.proofs.write.write_strings.Goals as goal
@@ -33,7 +33,7 @@ returns-clause-ok c =
       | else-loop-n-test w ↦ omega arith
       | then-loop-n-test+in_default w ↦ none_left ids c.loop-n.n (sym w.in_default.ensures.value)
     ] in
-    c.loop-n.invariant.written ∙ ap spelled_strings (take_all c.loop-n.n ids past)
+    c.loop-n.invariant.written ∙ ap spelled_ids (take_all c.loop-n.n ids past)
 
 pub returns-clause-list : goal.returns-clause-list
 returns-clause-list c =
@@ -43,4 +43,4 @@ returns-clause-list c =
       | then-loop-n-test+in_default w ↦ none_left ids c.loop-n.n (sym w.in_default.ensures.value)
     ] in
     let whole : take c.loop-n.n ids ≡ ids = take_all c.loop-n.n ids past in
-    subst (SpellsList (map string_member ids)) (sym (c.loop-n.invariant.written ∙ ap spelled_strings whole)) (ids_listed ids (subst (AllByRecursion IsIdentifier) whole c.loop-n.invariant.valid))
+    subst (SpellsList (map string_member ids)) (sym (c.loop-n.invariant.written ∙ ap spelled_ids whole)) (ids_listed ids (subst (AllByRecursion IsIdentifier) whole c.loop-n.invariant.valid))

@@ -1,14 +1,14 @@
--- Identifiers put in rising order.
-use Rattle.std.proofs.Common.{◌≡◌, ℕ, List, [], ◌∷◌, length, suc, refl, sym, ap, subst, ◌∙◌, inl, inr, ◌⊎◌, Less, Equal, Greater, Ordering}
-use Rattle.std.specs.List.{AllByRecursion}
+-- Identifiers put in rising order: the list rises, has the same members, and is the only one.
+use Rattle.std.proofs.Common.{◌≡◌, ◌↔◌, ◌≤◌, ℕ, List, [], ◌∷◌, length, suc, arith, refl, sym, ap, subst, ◌∙◌, inl, inr, ◌⊎◌, Less, Equal, Greater, Ordering}
+use Rattle.std.specs.List.{AllByRecursion, Contains}
 use Rattle.std.specs.List.Sorted.{IsStrictlySortedBy}
 use Rattle.std.specs.Ordering.{ordering_reverse}
 use Rattle.std.proofs.lemmas.Cmp.{nat_list_cmp_total}
 use Rattle.braid_ids.specs.Identifiers.{id_cmp}
-use Rattle.braid_ids.specs.Frontiers.{IsRising}
-use Rattle.braid_graph.specs.Frontiers.{with_id, rising_ids}
-use Rattle.braid_graph.proofs.Members.{Member}
-use Rattle.braid_graph.proofs.Ids.{id_same}
+use Rattle.braid_ids.specs.Frontiers.{IsRising, with_id, rising_ids}
+use Rattle.braid_ids.proofs.Members.{Member, contains_member, member_contains}
+use Rattle.braid_ids.proofs.Rising.{rising_same}
+use Rattle.braid_ids.proofs.Ids.{id_same}
 
 abbrev pub AllDistinct : List (List ℕ) → Type 0
 AllDistinct [] = Unit {0}
@@ -65,6 +65,15 @@ length_with_id v (w ∷ ws) h = go (id_cmp v w) refl (length_with_id v ws (λ m.
     go Less e r = ap length (with_id_before v w ws e)
     go Equal e r = absurd (h (inl (sym (id_same v w e))))
     go Greater e r = ap length (with_id_behind v w ws e) ∙ ap suc r
+
+within_with_id : (v : List ℕ) (ws : List (List ℕ)) → length (with_id v ws) ≤ suc (length ws)
+within_with_id v [] = omega arith
+within_with_id v (w ∷ ws) = go (id_cmp v w) refl (within_with_id v ws)
+  where
+    go : (o : Ordering) → id_cmp v w ≡ o → length (with_id v ws) ≤ suc (length ws) → length (with_id v (w ∷ ws)) ≤ suc (length (w ∷ ws))
+    go Less e r = let l = ap length (with_id_before v w ws e) in omega arith
+    go Equal e r = let l = ap length (with_id_same v w ws e) in omega arith
+    go Greater e r = let l = ap length (with_id_behind v w ws e) in omega arith
 
 pub member_rising : (v : List ℕ) (vs : List (List ℕ)) → Member v vs → Member v (rising_ids vs)
 member_rising v [] m = absurd m
@@ -130,3 +139,26 @@ rises_with_id v (w ∷ ws) r = go (id_cmp v w) refl (rises_with_id v ws (rises_r
 pub rises_ids : (vs : List (List ℕ)) → IsRising (rising_ids vs)
 rises_ids [] = rises_none
 rises_ids (v ∷ vs) = rises_with_id v (rising_ids vs) (rises_ids vs)
+
+-- the members of the rising list are those of the list
+pub rising_members : (ids : List (List ℕ)) (id : List ℕ) → Contains (rising_ids ids) id ↔ Contains ids id
+rising_members ids id = (
+  λ c. member_contains ids id (member_from_rising id ids (contains_member (rising_ids ids) id c)),
+  λ c. member_contains (rising_ids ids) id (member_rising id ids (contains_member ids id c)),
+)
+
+-- a rising list with these members is the rising list of them
+pub frontier_is : (F ids : List (List ℕ)) → IsRising F → ((id : List ℕ) → Contains F id ↔ Contains ids id) → F ≡ rising_ids ids
+frontier_is F ids r same = rising_same F (rising_ids ids) r (rises_ids ids) (λ id. (
+  λ c. (rising_members ids id).1 ((same id).0 c),
+  λ c. (same id).1 ((rising_members ids id).0 c),
+))
+
+-- a rising list is its own
+pub rising_itself : (F : List (List ℕ)) → IsRising F → rising_ids F ≡ F
+rising_itself F r = sym (frontier_is F F r (λ id. (λ c. c, λ c. c)))
+
+-- it has no more members than the list
+pub rising_within : (ids : List (List ℕ)) → length (rising_ids ids) ≤ length ids
+rising_within [] = omega arith
+rising_within (v ∷ vs) = let a = within_with_id v (rising_ids vs) in let b = rising_within vs in omega arith
