@@ -4,7 +4,7 @@ use Rattle.braid_io.specs.declared.source.Read.{Read}
 use Rattle.braid_io.specs.declared.source.Read.TheVariants.{Got, End, Failed}
 use Rattle.braid_io.specs.declared.sink.Wrote.{Wrote}
 use Rattle.braid_io.specs.declared.sink.Wrote.TheVariants.{Took, Failed as NotTaken}
-use Rattle.braid_io.specs.InMemory.{MemIntake, MemOutflow, MemReads, MemWrites, Gives}
+use Rattle.braid_io.specs.InMemory.{MemIntake, MemOutflow, MemReads, MemWrites, Gives, PureIntake, PureReads, GivesFront}
 
 -- where a piece is given, something is left
 not_ended : (n : ℕ) (buf : List ℕ) (old new : MemIntake) → Gives n buf old new → old.left ≡ [] → ⊥
@@ -29,6 +29,24 @@ read_once old new later End (Got m) buf other l a b = absurd (not_ended _ _ _ _ 
 read_once old new later (Got n) Failed buf other l a b = absurd (a.0 b.0)
 read_once old new later (Got n) End buf other l a b = absurd (not_ended _ _ _ _ a.1 b.1)
 read_once old new later (Got n) (Got m) buf other l a b = same_given n m buf other old new later l a.1 b.1
+
+-- the same of a source that never fails
+pure_not_ended : (n : ℕ) (buf : List ℕ) (old new : PureIntake) → GivesFront n buf old new → old.left ≡ [] → ⊥
+pure_not_ended n buf old new g e =
+    let none : length old.left ≡ 0 = ap length e in
+    let some = g.some in
+    omega arith
+
+pub pure_read_once : (old new later : PureIntake) (first second : Read) (buf other : List ℕ) → length buf ≡ length other → PureReads first buf old new → PureReads second other old later → (first ≡ second) × (new ≡ later)
+pure_read_once old new later Failed second buf other l a b = absurd a
+pure_read_once old new later End Failed buf other l a b = absurd b
+pure_read_once old new later End End buf other l a b = (refl, a.1 ∙ sym b.1)
+pure_read_once old new later End (Got m) buf other l a b = absurd (pure_not_ended _ _ _ _ b a.0)
+pure_read_once old new later (Got n) Failed buf other l a b = absurd b
+pure_read_once old new later (Got n) End buf other l a b = absurd (pure_not_ended _ _ _ _ a b.0)
+pure_read_once old new later (Got n) (Got m) buf other l a b =
+    let counts : n ≡ m = a.count ∙ ap (min (length old.left)) l ∙ sym b.count in
+    (ap Got counts, a.moved ∙ rw counts (sym b.moved))
 
 -- where a piece is taken, the write is not due to fail and there is room
 not_refused : (n : ℕ) (piece : List ℕ) (old new later : MemOutflow) → MemWrites (Took n) piece old new → MemWrites NotTaken piece old later → ⊥

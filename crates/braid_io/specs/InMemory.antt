@@ -21,6 +21,15 @@ pub record MemIntake : Type 0 where
 abbrev pub intake_of : MemIntake → Intake
 intake_of s = record { taken = Some s.taken; left = Some s.left; faults = s.faults }
 
+-- A source that never fails: the bytes given and left.
+pub record PureIntake : Type 0 where
+  pub taken : List ℕ
+  pub left : List ℕ
+
+-- What a source that never fails tells: all of it, and no fault.
+abbrev pub pure_intake : PureIntake → Intake
+pure_intake s = record { taken = Some s.taken; left = Some s.left; faults = 0 }
+
 -- A sink in memory: the bytes taken, the room left in bytes, the numbers of the calls that fail, the number of the
 -- next call, and the count of faults.
 pub record MemOutflow : Type 0 where
@@ -51,6 +60,20 @@ abbrev pub MemReads : Read → List ℕ → MemIntake → MemIntake → Type 0
 MemReads Failed buf old new = Contains old.fails old.calls × (new ≡ record old { calls = next_count old.calls; faults = next_count old.faults })
 MemReads End buf old new = ¬ Contains old.fails old.calls × (old.left ≡ []) × (new ≡ record old { calls = next_count old.calls })
 MemReads (Got n) buf old new = ¬ Contains old.fails old.calls × Gives n buf old new
+
+-- A read gives the first n bytes of what is left: as many as the buffer takes.
+pub record GivesFront (n : ℕ) (buf : List ℕ) (old new : PureIntake) : Type 0 where
+  pub some : 0 < length old.left
+  pub count : n ≡ min (length old.left) (length buf)
+  pub bytes : take n buf ≡ take n old.left
+  pub moved : new ≡ record { taken = old.taken ++ take n old.left; left = drop n old.left }
+
+-- One read of a source that never fails. It ends exactly where nothing is left, and gives the next bytes where
+-- something is.
+abbrev pub PureReads : Read → List ℕ → PureIntake → PureIntake → Type 0
+PureReads Failed buf old new = ⊥
+PureReads End buf old new = (old.left ≡ []) × (new ≡ old)
+PureReads (Got n) buf old new = GivesFront n buf old new
 
 -- A write takes the first n bytes of the piece: as many as the room allows.
 pub record Takes (n : ℕ) (piece : List ℕ) (old new : MemOutflow) : Type 0 where

@@ -1,5 +1,5 @@
 -- What reads and writes do to what a source and a sink tell, and to their counts of faults.
-use Rattle.std.specs.Prelude.{◌≡◌, ℕ, ◌-◌, ◌^◌, ◌<◌, ◌≤◌, ◌⊎◌, List, length, take, Option, None, ◌++◌}
+use Rattle.std.specs.Prelude.{◌≡◌, ◌≢◌, ℕ, ◌-◌, ◌^◌, ◌<◌, ◌≤◌, ◌⊎◌, List, [], length, take, Option, None, ◌++◌}
 use Rattle.std.specs.Io.KnownBytes.{append_known, prepend_known, IsAtEnd}
 use Rattle.braid_io.specs.declared.source.Read.{Read}
 use Rattle.braid_io.specs.declared.source.Read.TheVariants.{Got, End, Failed}
@@ -48,11 +48,12 @@ pub record WritesAll (bytes : List ℕ) (old new : Outflow) : Type 0 where
   pub written : new.written ≡ append_known old.written bytes
   pub faults : new.faults ≡ old.faults
 
--- A sink took the first of these bytes, and its count of faults rose.
+-- A sink took the first of these bytes and not all of them, and its count of faults rose.
 pub record WritesPart (bytes : List ℕ) (old new : Outflow) : Type 0 where
   pub front : List ℕ
   pub rest : List ℕ
   pub whole : bytes ≡ front ++ rest
+  pub unfinished : rest ≢ []
   pub written : new.written ≡ append_known old.written front
   pub never_falls : old.faults ≤ new.faults
   pub rose : Rose old.faults new.faults

@@ -4,16 +4,18 @@
 //! a terminal. A source tells what it has given and what it has left, a sink what it has taken, where they can;
 //! each counts its faults, and a call answers `Failed` only where that count rose in the call.
 //!
-//! The forms in memory tell all of that, and fail at the calls that they are told to. The adapters over std's
+//! The forms in memory tell all of that, and fail at the calls that they are told to; `PureSource` never fails. The adapters over std's
 //! reader and writer are the trusted edge: they tell their count of faults and no contents.
 //!
 //! Not promised: that a read or a write ever comes, or that what an adapter took reaches anyone.
 #![tactic(auto)]
 
 mod calls;
+mod copies;
 pub mod laws;
 mod mem_sink;
 mod mem_source;
+mod pure_source;
 mod sink;
 mod source;
 mod status;
@@ -22,6 +24,7 @@ mod std_source;
 
 pub use mem_sink::MemSink;
 pub use mem_source::MemSource;
+pub use pure_source::PureSource;
 pub use sink::{Sink, WriteEnd, Wrote, write_all};
 pub use source::{Read, Source};
 pub use status::Status;

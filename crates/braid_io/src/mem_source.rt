@@ -1,8 +1,9 @@
-ghost use Rattle.std.specs.Prelude.{◌≡◌, ◌<◌, ◌≤◌, [], length, take, min};
+ghost use Rattle.std.specs.Prelude.{◌≡◌, ◌<◌, [], length};
 ghost use Rattle.braid_io.specs.Outside.{Reads};
 ghost use Rattle.braid_io.specs.InMemory.{MemIntake, MemReads, intake_of};
 
 use crate::calls::Calls;
+use crate::copies::copy_front;
 use crate::source::{Read, Source};
 use braid_ids::Bytes;
 use std::marker::Model;
@@ -106,14 +107,4 @@ impl Source for MemSource {
         self.at += n;
         Read::Got(n)
     }
-}
-
-/// Puts the first bytes of `from` at the front of `buf`: at most `most` of them, and as many as fit.
-fn copy_front(from: &[u8], most: usize, buf: &mut [u8]) -> usize
-    ensures count { result ≡ min (min most (length from.now)) (length buf.old) }
-    ensures bytes { take result buf.new ≡ take result from.now }
-{
-    let n = most.min(from.len()).min(buf.len());
-    buf[..n].copy_from_slice(&from[..n]);
-    n
 }

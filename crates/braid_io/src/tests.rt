@@ -168,6 +168,25 @@ fn a_sink_in_memory_takes_what_it_has_room_for(rt: HostRuntime) -> Result<(), Fa
 }
 
 #[test]
+fn a_source_that_never_fails_fills_the_buffer(rt: HostRuntime) -> Result<(), Fail> {
+    use Read::{End, Got};
+    let rows: [(&[u8], usize, &[Read]); 4] = [
+        (b"abcde", 2, &[Got(2), Got(2), Got(1), End, End]),
+        (b"abcde", 9, &[Got(5), End]),
+        (b"abcde", 5, &[Got(5), End]),
+        (b"", 1, &[End]),
+    ];
+    for (bytes, size, answers) in rows {
+        let alloc = rt.alloc();
+        let mut source = PureSource::new(Bytes::of(alloc, bytes)?);
+        let got = read_all(&rt, alloc, &mut source, size, answers)?;
+        assert_eq!(rt; got.as_slice(), bytes);
+        assert!(rt; source.left().is_empty());
+    }
+    Ok(())
+}
+
+#[test]
 fn write_all_writes_all_or_a_prefix(rt: HostRuntime) -> Result<(), Fail> {
     let rows: [(usize, &[u64], &[u8], Result<(), WriteEnd>, &[u8], u64); 4] = [
         (9, &[], b"abcde", Ok(()), b"abcde", 1),
