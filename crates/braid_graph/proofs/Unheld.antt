@@ -1,5 +1,6 @@
 -- The least identifier that no entry has, of more and more identifiers.
-use Rattle.std.proofs.Common.{◌≡◌, ◌≢◌, ℕ, ◌+◌, ◌≤◌, List, [], ◌∷◌, ◌++◌, Bool, true, false, cond, length, take, slice_get, Option, Some, None, is_some, not, IfNone, IfSome, refl, sym, ap, subst, ◌∙◌, inl, inr, Less, Equal, Greater, Ordering}
+use Rattle.std.proofs.Common.{◌≡◌, ◌≢◌, ℕ, ◌+◌, ◌≤◌, List, [], ◌∷◌, ◌++◌, Bool, true, false, cond, length, take, slice_get, Bor, Option, Some, None, is_some, not, IfNone, IfSome, refl, sym, ap, subst, ◌∙◌, inl, inr, Less, Equal, Greater, Ordering}
+use Rattle.std.specs.Option.{option_copied}
 use Rattle.std.specs.Ordering.{is_lt, ordering_reverse}
 use Rattle.std.proofs.lemmas.Cmp.{nat_list_cmp_total}
 use Rattle.std.proofs.lemmas.List.{take_all}
@@ -97,3 +98,16 @@ not_held_from es v (Some n) missing e t h = let f : not missing ≡ false = ap n
 pub held_from : (es : List GraphEntry) (v : List ℕ) (r : Option ℕ) (missing : Bool) → is_some r ≡ not missing → missing ≡ false → IfSome r (λ (n : ℕ). slice_get (ids_of es) n ≡ Some v) → Holds es v
 held_from es v None missing e t h = let f : not missing ≡ true = ap not t in cc
 held_from es v (Some n) missing e t h = member_contains (ids_of es) v (member_at (ids_of es) n v h)
+
+-- an answer with the least that is missing, or none where nothing is
+pub least_of : (es : List GraphEntry) (F : List (List ℕ)) (r : Option (Bor (List ℕ))) → IfSome r (λ (id : Bor (List ℕ)). IsLeastUnheld es F id.now) → IfNone r (HoldsAll es F) → IsLeastOf es F (option_copied r)
+least_of es F None found none = none
+least_of es F (Some id) found none = found
+
+pub least_found : (es : List GraphEntry) (F : List (List ℕ)) (r : Option (Bor (List ℕ))) → IsLeastOf es F (option_copied r) → IfSome r (λ (id : Bor (List ℕ)). IsLeastUnheld es F id.now)
+least_found es F None is = tt
+least_found es F (Some id) is = is
+
+pub none_unheld : (es : List GraphEntry) (F : List (List ℕ)) (r : Option (Bor (List ℕ))) → IsLeastOf es F (option_copied r) → IfNone r (HoldsAll es F)
+none_unheld es F None is = is
+none_unheld es F (Some id) is = tt

@@ -3,7 +3,7 @@ ghost use Rattle.std.specs.List.{AllZip};
 ghost use Rattle.std.specs.Option.{option_map, option_copied};
 ghost use Rattle.braid_ids.specs.MarkSets.{IsMarked};
 ghost use Rattle.braid_graph.specs.Entries.{GraphEntry, ids_of, Holds, HoldsAll, IsHistoryGraph};
-ghost use Rattle.braid_graph.specs.Ancestries.{Covers, MarksAncestry, IsUnknown, NamesUnknown};
+ghost use Rattle.braid_graph.specs.Ancestries.{Covers, MarksAncestry, IsLeastUnheld, IsUnknown, NamesUnknown};
 ghost use Rattle.braid_graph.specs.Levels.{greatest_by, level_of};
 ghost use Rattle.braid_graph.specs.Frontiers.{IsFrontierOf, frontier_of, heads_of};
 ghost use Rattle.braid_graph.specs.Inside.{IsNumberOf, IsParentNumber, MarksMembers, AllMarked, IsLeastOf, lesser_of};
@@ -206,9 +206,10 @@ impl Graph {
         }
     }
 
-    /// The least of these identifiers that no entry has.
-    pub(crate) fn least_unheld<'a>(&self, of: &'a Frontier) -> Option<&'a Id>
-        ensures least { IsLeastOf self.now of.now (option_copied result) }
+    /// The least member of a frontier that no entry has, or `None` where all members are held. It takes no memory.
+    pub fn least_unheld<'a>(&self, of: &'a Frontier) -> Option<&'a Id>
+        ensures found { IfSome result (λ id. IsLeastUnheld self.now of.now id.now) }
+        ensures none { IfNone result (HoldsAll self.now of.now) }
     {
         let mut least: Option<&'a Id> = None;
         for i in 0..of.len() {

@@ -174,6 +174,10 @@ fn levels_and_ancestries_are_those_of_any_order(rt: HostRuntime) -> Result<(), F
 /// Whether the ancestry is refused, with this identifier as the least that is not known.
 fn has_unknown(alloc: Global, graph: &Graph, of: &str, name: &str) -> Result<bool, Fail> {
     let of = frontier_of(alloc, of)?;
+    let Some(least) = graph.least_unheld(&of) else {
+        return Err("all members are held".into());
+    };
+    check(least.bytes() == name.as_bytes(), "the least unheld")?;
     match graph.ancestry(alloc, &of) {
         Err(Unknown::Id { id }) => Ok(id.bytes() == name.as_bytes()),
         Ok(_) | Err(Unknown::Memory) => Ok(false),

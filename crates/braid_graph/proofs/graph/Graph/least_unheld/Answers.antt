@@ -1,6 +1,6 @@
 use Rattle.std.proofs.Common.{arith, sym}
 use Rattle.std.specs.Option.{option_copied}
-use Rattle.braid_graph.proofs.Unheld.{least_next, least_next_held, least_all, held_from, not_held_from}
+use Rattle.braid_graph.proofs.Unheld.{least_next, least_next_held, least_all, least_found, none_unheld, held_from, not_held_from}
 use Rattle.braid_graph.proofs.graph.Graph.least_unheld.Goals as goal
 use Rattle.braid_graph.proofs.graph.Graph.least_unheld.Goals.{then-is_none, else-is_none}
 
@@ -21,4 +21,8 @@ loop-i-preserved c =
     ]
 
 pub returns : goal.returns
-returns c = record { least = least_all c.args.self.now c.args.of.now c.loop-i.i (option_copied c.loop-i.least) (omega (arith, c.len-i-end.ensures.len)) c.loop-i.invariant }
+returns c =
+    let es = c.args.self.now in
+    let F = c.args.of.now in
+    let is = least_all es F c.loop-i.i (option_copied c.loop-i.least) (omega (arith, c.len-i-end.ensures.len)) c.loop-i.invariant in
+    record { found = least_found es F c.loop-i.least is; none = none_unheld es F c.loop-i.least is }
