@@ -59,6 +59,33 @@ within_joined (p ∷ q ∷ qs) low len h w = go (p.start == q.start) refl (λ v.
         let v : all_within len (p ∷ joined (q ∷ qs)) ≡ true = ap (all_within len) (sym (join_other p (joined (q ∷ qs)) q.start o e)) ∙ w in
         front (deep (and_parts (nat_le p.end len) (all_within len (joined (q ∷ qs))) v).1)
 
+-- all joined ones are within where all are
+joined_within : (ps : List Patch) (len : ℕ) → all_within len ps ≡ true → all_within len (joined ps) ≡ true
+joined_within [] len w = refl
+joined_within (p ∷ []) len w = w
+joined_within (p ∷ q ∷ qs) len w = go (p.start == q.start) refl (joined_within (q ∷ qs) len rest)
+  where
+    rest : all_within len (q ∷ qs) ≡ true
+    rest = (and_parts (nat_le p.end len) (all_within len (q ∷ qs)) w).1
+
+    o : Opens q.start (joined (q ∷ qs))
+    o = opens q qs
+
+    go : (b : Bool) → p.start == q.start ≡ b → all_within len (joined (q ∷ qs)) ≡ true → all_within len (join p (joined (q ∷ qs))) ≡ true
+    go true e deep = ap (all_within len) (joins p (joined (q ∷ qs)) q.start o e) ∙ ap (all_within len) (sym o.is) ∙ deep
+    go false e deep =
+        ap (all_within len) (join_other p (joined (q ∷ qs)) q.start o e)
+        ∙ ap (λ b. b && all_within len (joined (q ∷ qs))) (and_parts (nat_le p.end len) (all_within len (q ∷ qs)) w).0
+        ∙ deep
+
+same_flag : (a b : Bool) → (a ≡ true → b ≡ true) → (b ≡ true → a ≡ true) → a ≡ b
+same_flag true b f g = sym (f refl)
+same_flag false true f g = g refl
+same_flag false false f g = refl
+
+pub within_same : (ps : List Patch) (low len : ℕ) → AreListed low ps → all_within len (joined ps) ≡ all_within len ps
+within_same ps low len h = same_flag _ _ (within_joined ps low len h) (joined_within ps len)
+
 pub drop_on : {A : Type 0} (a b c : ℕ) (t : List A) → a ≤ b → b ≤ c → drop (c - b) (drop (b - a) t) ≡ drop (c - a) t
 drop_on a b c t h k = let e : (b - a) + (c - b) ≡ c - a = omega arith in drop-drop (c - b) (b - a) t ∙ ap (λ (n : ℕ). drop n t) e
 

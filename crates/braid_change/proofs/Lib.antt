@@ -9,3 +9,5 @@ pub mod Written
 pub mod Read
 pub mod Departures
 pub mod OneRange
+pub mod Built
+pub mod OneFault

@@ -13,10 +13,10 @@ use Rattle.braid_change.specs.Spellings.{range_text}
 use Rattle.braid_change.specs.declared.range.RangeFault.{RangeFault}
 use Rattle.braid_change.specs.declared.range.RangeFault.TheVariants.{Unit, Form, Number}
 
-starts_is : (p : ℕ → Bool) (c : ℕ) (x y : List ℕ) → x ≡ c ∷ y → starts p x ≡ p c
+pub starts_is : (p : ℕ → Bool) (c : ℕ) (x y : List ℕ) → x ≡ c ∷ y → starts p x ≡ p c
 starts_is p c x y e = ap (starts p) e
 
-clash : (b : Bool) → b ≡ true → b ≡ false → ⊥
+pub clash : (b : Bool) → b ≡ true → b ≡ false → ⊥
 clash b h k = cc
 
 heads : (c d : ℕ) (x y : List ℕ) → c ∷ x ≡ d ∷ y → c ≡ d
@@ -35,19 +35,19 @@ run_one p (c ∷ a) (d ∷ b) x y h s k t e =
     let n = heads c d (a ++ x) (b ++ y) e in
     ((λ i. n i ∷ q.0 i), q.1)
 
-as_list_all : (ds : List ℕ) → all_ascii_digits ds ≡ true → list_all is_ascii_digit ds ≡ true
+pub as_list_all : (ds : List ℕ) → all_ascii_digits ds ≡ true → list_all is_ascii_digit ds ≡ true
 as_list_all [] h = refl
 as_list_all (d ∷ ds) h = let q = and_parts (is_ascii_digit d) (all_ascii_digits ds) h in ap (λ b. b && list_all is_ascii_digit ds) q.0 ∙ as_list_all ds q.1
 
 -- a list begins with a byte of its front
-starts_front : (p : ℕ → Bool) (a x y : List ℕ) → 0 < length a → list_all p a ≡ true → y ≡ a ++ x → starts p y ≡ true
+pub starts_front : (p : ℕ → Bool) (a x y : List ℕ) → 0 < length a → list_all p a ≡ true → y ≡ a ++ x → starts p y ≡ true
 starts_front p [] x y l h e = absurd (omega arith)
 starts_front p (c ∷ a) x y l h e = starts_is p c y (a ++ x) e ∙ (and_parts (p c) (list_all p a) h).0
 
-gap_one : (value x y : List ℕ) → AfterGap value x → starts is_space x ≡ false → AfterGap value y → starts is_space y ≡ false → x ≡ y
+pub gap_one : (value x y : List ℕ) → AfterGap value x → starts is_space x ≡ false → AfterGap value y → starts is_space y ≡ false → x ≡ y
 gap_one value x y (g, is, e) s (h, also, f) t = (run_one is_space g h x y is.spaces s also.spaces t (append_cancel_left (codes "text") (g ++ x) (h ++ y) (sym e ∙ f))).1
 
-bracket_one : (value x y : List ℕ) → AfterBracket value x → AfterBracket value y → x ≡ y
+pub bracket_one : (value x y : List ℕ) → AfterBracket value x → AfterBracket value y → x ≡ y
 bracket_one value x y g h = tails 91 91 x y (gap_one value (91 ∷ x) (91 ∷ y) g refl h refl)
 
 number_one : (a b x y : List ℕ) (m n : ℕ) → IsNumber a m → IsNumber b n → starts is_ascii_digit x ≡ false → starts is_ascii_digit y ≡ false → a ++ x ≡ b ++ y → (m ≡ n) × (x ≡ y)
@@ -55,18 +55,18 @@ number_one a b x y m n h k s t e =
     let q = run_one is_ascii_digit a b x y (as_list_all a h.decimal) s (as_list_all b k.decimal) t e in
     (h.value ∙ ap (digits_value 10) q.0 ∙ sym k.value, q.1)
 
-start_one : (value x y : List ℕ) (m n : ℕ) → AfterStart value m x → starts is_ascii_digit x ≡ false → AfterStart value n y → starts is_ascii_digit y ≡ false → (m ≡ n) × (x ≡ y)
+pub start_one : (value x y : List ℕ) (m n : ℕ) → AfterStart value m x → starts is_ascii_digit x ≡ false → AfterStart value n y → starts is_ascii_digit y ≡ false → (m ≡ n) × (x ≡ y)
 start_one value x y m n (a, h, g) s (b, k, f) t = number_one a b x y m n h k s t (bracket_one value (a ++ x) (b ++ y) g f)
 
-colon_one : (value x y : List ℕ) (m n : ℕ) → AfterColon value m x → AfterColon value n y → (m ≡ n) × (x ≡ y)
+pub colon_one : (value x y : List ℕ) (m n : ℕ) → AfterColon value m x → AfterColon value n y → (m ≡ n) × (x ≡ y)
 colon_one value x y m n g h = let q = start_one value (58 ∷ x) (58 ∷ y) m n g refl h refl in (q.0, tails 58 58 x y q.1)
 
-end_one : (value x y : List ℕ) (m n i j : ℕ) → AfterEnd value m i x → starts is_ascii_digit x ≡ false → AfterEnd value n j y → starts is_ascii_digit y ≡ false → (m ≡ n) × ((i ≡ j) × (x ≡ y))
+pub end_one : (value x y : List ℕ) (m n i j : ℕ) → AfterEnd value m i x → starts is_ascii_digit x ≡ false → AfterEnd value n j y → starts is_ascii_digit y ≡ false → (m ≡ n) × ((i ≡ j) × (x ≡ y))
 end_one value x y m n i j (a, h, g) s (b, k, f) t =
     let q = colon_one value (a ++ x) (b ++ y) m n g f in
     (q.0, number_one a b x y i j h k s t q.1)
 
-close_one : (value x y : List ℕ) (m n i j : ℕ) → AfterClose value m i x → AfterClose value n j y → (m ≡ n) × ((i ≡ j) × (x ≡ y))
+pub close_one : (value x y : List ℕ) (m n i j : ℕ) → AfterClose value m i x → AfterClose value n j y → (m ≡ n) × ((i ≡ j) × (x ≡ y))
 close_one value x y m n i j g h = let q = end_one value (93 ∷ x) (93 ∷ y) m n i j g refl h refl in (q.0, (q.1.0, tails 93 93 x y q.1.1))
 
 pub range_one : (value : List ℕ) (m n i j : ℕ) → IsRange value m i → IsRange value n j → (m ≡ n) × (i ≡ j)
@@ -93,19 +93,19 @@ colon_of value m i w = (w.first, w.start, w.bracket)
 end_of : (value : List ℕ) (m i : ℕ) (w : Whole value m i) → AfterEnd value m i (93 ∷ [])
 end_of value m i w = (w.second, w.end, colon_of value m i w)
 
-too_large : (rest a x : List ℕ) (n : ℕ) → IsNumber a n → starts is_ascii_digit x ≡ false → rest ≡ a ++ x → BeginsTooLarge rest → ⊥
+pub too_large : (rest a x : List ℕ) (n : ℕ) → IsNumber a n → starts is_ascii_digit x ≡ false → rest ≡ a ++ x → BeginsTooLarge rest → ⊥
 too_large rest a x n h s e (d, after, k, t, f) =
     let q = run_one is_ascii_digit a d x after (as_list_all a h.decimal) s (as_list_all d k.decimal) t (sym e ∙ f) in
     fits a n h (subst IsTooLarge (sym q.0) k)
 
-unit_taken : (value : List ℕ) → (x : List ℕ) → AfterGap value x → take_while is_other value ≡ codes "text"
+pub unit_taken : (value : List ℕ) → (x : List ℕ) → AfterGap value x → take_while is_other value ≡ codes "text"
 unit_taken value x ([], is, e) = absurd (omega (arith, is.some))
 unit_taken value x (c ∷ g, is, e) =
     let t = (and_parts (is_space c) (list_all is_space g) is.spaces).0 in
     let n : prefix_len is_other (codes "text" ++ (c ∷ g ++ x)) ≡ 4 = ap (λ b. 1 + (1 + (1 + (1 + cond (not b) (1 + prefix_len is_other (g ++ x)) 0)))) t in
     ap (take_while is_other) e ∙ ap (λ (k : ℕ). take k (codes "text" ++ (c ∷ g ++ x))) n
 
-no_gap_left : (value x : List ℕ) → value ≡ codes "text" → AfterGap value x → ⊥
+pub no_gap_left : (value x : List ℕ) → value ≡ codes "text" → AfterGap value x → ⊥
 no_gap_left value x e ([], is, h) = absurd (omega (arith, is.some))
 no_gap_left value x e (c ∷ g, is, h) = nothing c (g ++ x) (append_cancel_left (codes "text") [] (c ∷ g ++ x) (sym e ∙ h))
   where

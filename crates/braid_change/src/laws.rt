@@ -1,15 +1,16 @@
 //! Laws of the definitions, each the contract of a function that does nothing.
 
-ghost use Rattle.std.specs.Prelude.{◌≡◌, ◌<◌, ◌^◌, ◌+◌, ◌-◌, ◌↔◌, List, ℕ, [], ◌∷◌, ◌++◌, Some, None, IsSome, take, drop, length};
-ghost use Rattle.braid_change.specs.Changes.{IsShaped};
-ghost use Rattle.braid_change.specs.Updates.{UpdateView};
+ghost use Rattle.std.specs.Prelude.{◌≡◌, ◌<◌, ◌^◌, ◌+◌, ◌-◌, ◌↔◌, ◌⊎◌, List, ℕ, [], ◌∷◌, ◌++◌, Some, None, IsSome, take, drop, length};
+ghost use Rattle.braid_change.specs.Changes.{IsShaped, AreListed, AreNumbered, AreScalars, patches_of};
+ghost use Rattle.braid_change.specs.Updates.{UpdateView, IsBuilt, IsBuildFault};
 ghost use Rattle.braid_change.specs.Spellings.{range_text, canonical, canonical_all};
 ghost use Rattle.braid_change.specs.RangeForms.{IsRange, IsRangeFault};
 ghost use Rattle.braid_change.specs.declared.range.RangeFault.{RangeFault};
 ghost use Rattle.std.specs.List.{AllByRecursion};
-ghost use Rattle.braid_change.specs.Splices.{ranges, cut, spliced, first_past, AreRanges, removed, inserted};
+ghost use Rattle.braid_change.specs.Splices.{ranges, joined, all_within, cut, spliced, first_past, AreRanges, removed, inserted};
 ghost use Rattle.braid_change.specs.declared.patch.Patch.{Patch};
 ghost use Rattle.braid_change.specs.declared.change.Change.{Change};
+ghost use Rattle.braid_change.specs.declared.update.BuildFault.{BuildFault};
 ghost use Rattle.braid_change.specs.declared.change.Change.TheVariants.{Body, Patches};
 
 /// A body gives itself, whatever the text was.
@@ -54,4 +55,24 @@ pub fn one_range()
     ensures one { (value : List ℕ) (m n i j : ℕ) → IsRange value m i → IsRange value n j → (m ≡ n) × (i ≡ j) }
     ensures faultless { (value : List ℕ) (m i : ℕ) (fault : RangeFault) → IsRange value m i → IsRangeFault value fault → ⊥ }
     ensures spelled { (m i : ℕ) → m < 2 ^ 32 → i < 2 ^ 32 → IsRange (range_text m i) m i }
+{}
+
+/// A value that is no range has one fault.
+pub fn one_range_fault()
+    ensures law { (value : List ℕ) (fault other : RangeFault) → IsRangeFault value fault → IsRangeFault value other → fault ≡ other }
+{}
+
+/// Parts that make no update have one fault, and those that make one have none. Parts of scalar values and of numbers
+/// below 2^32, as those of the program are, make an update or have a fault.
+pub fn one_build_fault()
+    ensures one { (parents : List (List ℕ)) (change : Change) (fault other : BuildFault) → IsBuildFault parents change fault → IsBuildFault parents change other → fault ≡ other }
+    ensures faultless { (parents : List (List ℕ)) (change : Change) (fault : BuildFault) → IsBuilt parents change → IsBuildFault parents change fault → ⊥ }
+    ensures either { (parents : List (List ℕ)) (change : Change) → AreScalars change → AreNumbered (patches_of change) → IsBuilt parents change ⊎ ((fault : BuildFault) × IsBuildFault parents change fault) }
+{}
+
+/// Joining changes nothing of a splice: for listed patches the text is cut alike at the patches and at the joined ones,
+/// and all of the ones are within a text where all of the others are.
+pub fn joining_changes_nothing()
+    ensures cut { (t : List ℕ) (patches : List Patch) → AreListed 0 patches → cut 0 t (joined patches) ≡ cut 0 t patches }
+    ensures within { (len : ℕ) (patches : List Patch) → AreListed 0 patches → all_within len (joined patches) ≡ all_within len patches }
 {}
