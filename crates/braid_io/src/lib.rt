@@ -4,8 +4,8 @@
 //! a terminal. A source tells what it has given and what it has left, a sink what it has taken, where they can;
 //! each counts its faults, and a call answers `Failed` only where that count rose in the call.
 //!
-//! The forms in memory tell all of that, and fail at the calls that they are told to; `PureSource` never fails. The adapters over std's
-//! reader and writer are the trusted edge: they tell their count of faults and no contents.
+//! The forms in memory tell all of that, and fail at the calls that they are told to; `PureSource` never fails. The
+//! adapters over std's reader and writer are the trusted edge: they tell their count of faults and no contents.
 //!
 //! Not promised: that a read or a write ever comes, or that what an adapter took reaches anyone.
 #![tactic(auto)]
