@@ -1,0 +1,14 @@
+pub mod Held
+pub mod Whole
+pub mod Same
+pub mod Own
+pub mod Law
+pub mod Ties
+pub mod Documents
+pub mod Logs
+pub mod Judged
+pub mod Answered
+pub mod Alike
+pub mod Public
+pub mod Rows
+pub mod Past

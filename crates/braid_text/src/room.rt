@@ -1,0 +1,23 @@
+/// What there is room for in a resource beside its updates, or what an update needs.
+#[derive(Clone, Copy, Debug, PartialEq, Eq)]
+pub struct Room {
+    /// Versions.
+    pub versions: u64,
+    /// Elements: inserted characters, the deleted ones too.
+    pub elements: u64,
+    /// Deletion marks: pairs of an element and a version that deletes it.
+    pub deletions: u64,
+    /// Identifiers in the frontier. The room is for the whole frontier, and so is the need.
+    pub width: u64,
+}
+
+/// What there is too little room for.
+#[derive(Clone, Copy, Debug, PartialEq, Eq)]
+pub enum Which {
+    /// Resources of a book. A resource's own answers never name it.
+    Resources,
+    Versions,
+    Elements,
+    Deletions,
+    Width,
+}

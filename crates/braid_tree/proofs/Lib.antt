@@ -1,0 +1,17 @@
+pub mod Order
+pub mod Landing
+pub mod Member
+pub mod Placing
+pub mod Runs
+pub mod Kept
+pub mod Spans
+pub mod Keys
+pub mod LawProofs
+pub mod Links
+pub mod Places
+pub mod Put
+pub mod Bridge
+pub mod RowReads
+pub mod KeptRows
+pub mod Callers
+pub mod SeenRows

@@ -1,0 +1,9 @@
+pub mod Keys
+pub mod Paths
+pub mod Nodes
+pub mod Trees
+pub mod Elements
+pub mod Worked
+pub mod Rows
+pub mod Seen
+pub mod Inside

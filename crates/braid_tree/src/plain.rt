@@ -1,0 +1,120 @@
+ghost use Rattle.std.specs.Prelude.{◌≡◌, []};
+ghost use Rattle.braid_tree.specs.Inside.{PlainView};
+
+use crate::at::At;
+use crate::document::Document;
+use crate::removal::Removal;
+use crate::row::{PlainRow, index_of, landing, put_run};
+use crate::version::Version;
+use crate::visible::{count_visible, nth_visible, visible_text};
+use braid_ids::{Id, Marks, Memory};
+use std::alloc::Global;
+use std::marker::Model;
+
+/// A document with one row for each element, in reading order.
+///
+/// A row takes 32 bytes and a deletion 20. A run or a deletion finds its element by one pass over the rows; a run
+/// moves what follows it once.
+#[derive(Drop)]
+pub struct PlainDocument {
+    versions: Vec<Version>,
+    elements: Vec<PlainRow>,
+    removals: Vec<Removal>,
+}
+
+impl Model for PlainDocument {
+    ghost use Rattle.std.specs.Prelude.{vec_len, vec_capacity};
+    ghost use Rattle.braid_tree.specs.Inside.{PlainView, stamps_in, rows_in, deletions_in, free_in, IsKept};
+
+    ghost Value = { PlainView };
+
+    ghost view = { λ d. record {
+      stamps = stamps_in d.versions.items;
+      rows = rows_in d.elements.items;
+      deletions = deletions_in d.removals.items;
+      room = record {
+        versions = free_in (vec_capacity d.versions) (vec_len d.versions);
+        elements = free_in (vec_capacity d.elements) (vec_len d.elements);
+        deletions = free_in (vec_capacity d.removals) (vec_len d.removals);
+      };
+    } };
+
+    ghost invariant = { λ d. IsKept d.versions.items d.elements.items d.removals.items };
+}
+
+impl PlainDocument {
+    /// The document without versions, elements and deletions. It takes no memory.
+    pub fn new(alloc: Global) -> PlainDocument
+        ensures stamps { result.stamps ≡ [] }
+        ensures rows { result.rows ≡ [] }
+        ensures deletions { result.deletions ≡ [] }
+    {
+        PlainDocument {
+            versions: Vec::new(alloc),
+            elements: Vec::new(alloc),
+            removals: Vec::new(alloc),
+        }
+    }
+}
+
+impl Document for PlainDocument {
+    ghost stamps = { λ d. d.stamps };
+
+    ghost rows = { λ d. d.rows };
+
+    ghost removed = { λ d. d.deletions };
+
+    ghost room = { λ d. d.room };
+
+    fn reserve(&mut self, versions: u32, elements: u32, deletions: u32) -> Result<(), Memory> {
+        self.versions.reserve(versions as usize)?;
+        self.elements.reserve(elements as usize)?;
+        self.removals.reserve(deletions as usize)?;
+        Ok(())
+    }
+
+    fn begin(&mut self, id: Id, level: u32) {
+        self.versions.push_reserved(Version { id, level });
+    }
+
+    fn insert_run(&mut self, after: Option<At>, text: &[char], ordinal: u32) {
+        let version = (self.versions.len() - 1) as u32;
+        let first = At { version, ordinal };
+        let start = match after {
+            None => 0,
+            Some(at) => index_of(&self.elements, at) + 1,
+        };
+        let place = landing(&self.versions, &self.elements, start, first);
+        put_run(&mut self.elements, place, first, after, text);
+    }
+
+    fn delete(&mut self, at: At) {
+        let by = (self.versions.len() - 1) as u32;
+        let number = self.removals.len() as u32;
+        let index = index_of(&self.elements, at);
+        let row = &mut self.elements[index];
+        let earlier = row.newest;
+        row.newest = Some(number);
+        self.removals.push_reserved(Removal { at, by, earlier });
+    }
+
+    fn len(&self, marks: &Marks) -> u32 {
+        count_visible(marks, &self.removals, &self.elements)
+    }
+
+    fn visible_at(&self, marks: &Marks, n: u32) -> Option<At> {
+        nth_visible(marks, &self.removals, &self.elements, n)
+    }
+
+    fn text(&self, alloc: Global, marks: &Marks) -> Result<Vec<char>, Memory> {
+        visible_text(alloc, marks, &self.removals, &self.elements)
+    }
+
+    fn elements(&self) -> u32 {
+        self.elements.len() as u32
+    }
+
+    fn deletions(&self) -> u32 {
+        self.removals.len() as u32
+    }
+}

@@ -1,0 +1,83 @@
+ghost use Rattle.std.specs.Prelude.{◌≡◌, ℕ, ◌+◌, ◌<◌, ◌≤◌, ◌++◌, ◌^◌, length, take, drop, vec_len, vec_capacity};
+ghost use Rattle.braid_tree.specs.Rows.{HasPlace, AreKnown};
+ghost use Rattle.braid_tree.specs.Inside.{stamps_in, rows_in, new_rows, IsPlaceOf, IsPassed, IsNotPassed};
+
+use crate::at::At;
+use crate::version::{Version, has_greater_key};
+
+/// An element as it is kept.
+#[derive(Clone, Copy)]
+pub struct PlainRow {
+    pub at: At,
+    pub character: char,
+    pub origin: Option<At>,
+    /// The number of the last deletion of this element.
+    pub newest: Option<u32>,
+}
+
+/// Where an element stands.
+pub fn index_of(rows: &[PlainRow], at: At) -> usize
+    requires there { HasPlace (rows_in rows.now) at }
+    ensures found { IsPlaceOf (rows_in rows.now) at result }
+{
+    for (i, row) in rows.iter().enumerate() {
+        if row.at == at {
+            return i;
+        }
+    }
+    unreachable!()
+}
+
+/// Passes over the neighbours with greater keys than `first`: the place of the next element, or the end.
+///
+/// ```text
+/// a  Q  P  b  c    Q, P and b hang below a, by falling keys; c hangs below the root
+///    ^             start: behind the origin a
+///       ^          a new element below a, with a key between those of Q and P, goes here
+/// ```
+///
+/// What hangs below a passed neighbour has a greater key than that neighbour, so it is passed too. The first element
+/// that does not hang below the origin has a smaller key than one on the origin's path, and so than the new one. So
+/// the keys alone decide.
+pub fn landing(versions: &[Version], rows: &[PlainRow], start: usize, first: At) -> usize
+    requires start_in { start ≤ length rows.now }
+    requires first_known { first.version < length versions.now }
+    requires known { AreKnown (stamps_in versions.now) (rows_in rows.now) }
+    ensures from { start ≤ result }
+    ensures within { result ≤ length rows.now }
+    ensures passed { (k : ℕ) → start ≤ k → k < result → IsPassed (stamps_in versions.now) (rows_in rows.now) first k }
+    ensures stop { result < length rows.now → IsNotPassed (stamps_in versions.now) (rows_in rows.now) first result }
+{
+    let mut place = start;
+    while place < rows.len() && has_greater_key(versions, rows[place].at, first) {
+        place += 1;
+    }
+    place
+}
+
+/// Puts the rows of a run, from `place` on, where there is room for them: at the end first, then by one move of the
+/// tail.
+pub fn put_run(rows: &mut Vec<PlainRow>, place: usize, first: At, origin: Option<At>, text: &[char])
+    requires within { place ≤ vec_len rows.old }
+    requires roomy { vec_len rows.old + length text.now ≤ vec_capacity rows.old }
+    requires fits { first.ordinal + length text.now < 2 ^ 32 }
+    ensures len { vec_len rows.new ≡ vec_len rows.old + length text.now }
+    ensures in_place { vec_capacity rows.new ≡ vec_capacity rows.old }
+    ensures put { rows.new.items ≡ take place rows.old.items
+        ++ (new_rows first.version origin first.ordinal text.now ++ drop place rows.old.items) }
+{
+    let mut at = first;
+    let mut origin = origin;
+    for character in text {
+        rows.push_reserved(PlainRow {
+            at,
+            character: *character,
+            origin,
+            newest: None,
+        });
+        origin = Some(at);
+        at.ordinal += 1;
+    }
+    let tail = &mut rows[place..];
+    tail.rotate_right(text.len());
+}
