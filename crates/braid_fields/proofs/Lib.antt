@@ -1,0 +1,16 @@
+pub mod Padding
+pub mod FieldReading
+pub mod Contents
+pub mod Computed
+pub mod StatusReading
+pub mod ForStreams
+pub mod ValueReading
+pub mod RangeReading
+pub mod KnownFields
+pub mod JoinedLines
+pub mod Planned
+pub mod NameRows
+pub mod ContentRows
+pub mod PlanLimits
+pub mod CanonicalLines
+pub mod CanonicalHeads

@@ -1,0 +1,11 @@
+pub mod Lines
+pub mod Fields
+pub mod Cuts
+pub mod Statuses
+pub mod Values
+pub mod Known
+pub mod KnownNames
+pub mod Table
+pub mod Rows
+pub mod Limits
+pub mod Canonical

@@ -1,0 +1,90 @@
+//! The length of a content.
+
+ghost use Rattle.std.specs.Prelude.{◌≡◌, ◌≤◌, ◌<◌, ◌^◌, length, unwrap_or};
+ghost use Rattle.std.specs.List.{list_all};
+ghost use Rattle.std.specs.Str.Parse.{digits_value};
+ghost use Rattle.braid_shelf.specs.ByteClasses.{Are, is_digit};
+ghost use Rattle.braid_fields.specs.Values.{are_length_digits, length_in_value};
+ghost use Rattle.braid_fields.specs.Table.{first_row, told, length_of};
+ghost use Rattle.braid_fields.specs.Rows.{told_rows, len_rows, length_rows};
+
+use crate::reason::Reason;
+use braid_ids::ListBytes;
+
+/// The most digits of a length.
+const MOST_DIGITS: usize = 15;
+
+/// The most bytes of all contents of an update.
+const LONGEST: u64 = 1_048_576;
+
+/// The number that digits write.
+fn number(digits: &[u8]) -> u64
+    requires digits { Are is_digit digits.now }
+    requires few { length digits.now ≤ 15 }
+    ensures value { result ≡ digits_value 10 digits.now }
+{
+    let mut number = 0;
+    for digit in digits {
+        number = number * 10 + u64::from(*digit - b'0');
+    }
+    number
+}
+
+/// Whether each of the bytes is a digit.
+fn are_digits(bytes: &[u8]) -> bool
+    ensures { result ≡ list_all is_digit bytes.now }
+{
+    bytes.iter().all(|byte| byte.is_ascii_digit())
+}
+
+/// Whether a value is 1 to 15 digits.
+fn are_length_digits(value: &[u8]) -> bool
+    ensures { result ≡ are_length_digits value.now }
+{
+    1 <= value.len() && value.len() <= MOST_DIGITS && are_digits(value)
+}
+
+/// The number of a value that is 1 to 15 digits.
+#[tactic(auto, unfolding(crate::specs::Values::length_in_value))]
+fn read_length(value: &[u8]) -> Option<u64>
+    ensures value { result ≡ length_in_value value.now }
+{
+    if !are_length_digits(value) {
+        return None;
+    }
+    Some(number(value))
+}
+
+/// The length that the line of `Content-Length` tells.
+fn told_len(values: &ListBytes) -> Result<u64, Reason>
+    ensures len { result ≡ first_row (told_rows values.now) (unwrap_or (told length_in_value values.now) 0) }
+{
+    let Some(value) = values.get().first() else {
+        return Err(Reason::NoLength);
+    };
+    match read_length(value.get()) {
+        Some(len) => Ok(len),
+        None => Err(Reason::BadLength),
+    }
+}
+
+/// The length that is given or that the line tells.
+fn len_of(given: Option<u64>, values: &ListBytes) -> Result<u64, Reason>
+    ensures len { result ≡ first_row (len_rows given values.now) (length_of given values.now) }
+{
+    match given {
+        Some(len) => Ok(len),
+        None => told_len(values),
+    }
+}
+
+/// The length of a content behind others of `used` bytes, as it is given or told.
+pub(crate) fn content_len(given: Option<u64>, used: u32, values: &ListBytes) -> Result<u32, Reason>
+    ensures len { result ≡ first_row (length_rows given used values.now) (length_of given values.now) }
+{
+    let len = len_of(given, values)?;
+    if len.saturating_add(u64::from(used)) > LONGEST {
+        return Err(Reason::TooLong);
+    }
+    Ok(len as u32)
+}

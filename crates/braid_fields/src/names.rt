@@ -1,0 +1,84 @@
+//! The identifier and the parents of an update.
+
+ghost use Rattle.std.specs.Prelude.{◌≡◌, Ok, IfOk, IfErr};
+ghost use Rattle.braid_ids.specs.Frontiers.{rising_ids};
+ghost use Rattle.braid_shelf.specs.ByteClasses.{Are, is_printable};
+ghost use Rattle.braid_fields.specs.Table.{first_row, first_of, name_rows, Plans};
+ghost use Rattle.braid_fields.specs.Rows.{ArePrintable, one_id_rows, id_rows, version_rows, parent_rows, names_of, Refuses};
+
+use crate::joined::members;
+use crate::parts::Parts;
+use crate::plan::PlanFault;
+use crate::reason::Reason;
+use braid_ids::{Bytes, Frontier, Id, IdFault, ListBytes};
+use std::alloc::Global;
+
+const MOST_PARENTS: u32 = 32;
+
+/// The most members of a set of identifiers. No memory holds a list of more.
+const MOST_MEMBERS: usize = 4_294_967_295;
+
+/// The identifier that a string is.
+fn read_id(alloc: Global, string: &[u8]) -> Result<Id, PlanFault>
+    requires printable { Are is_printable string.now }
+    ensures id { Plans result (first_row (one_id_rows string.now) string.now) }
+{
+    match Id::read(alloc, string) {
+        Ok(id) => Ok(id),
+        Err(IdFault::Memory) => Err(PlanFault::Memory),
+        Err(_) => Err(PlanFault::Reason(Reason::BadId)),
+    }
+}
+
+/// The identifier that the only string is.
+fn version_id(alloc: Global, strings: &ListBytes) -> Result<Id, PlanFault>
+    requires printable { ArePrintable strings.now }
+    ensures id { Plans result (first_row (version_rows strings.now) (first_of strings.now)) }
+{
+    match strings.get() {
+        [] => Err(PlanFault::Reason(Reason::NoVersion)),
+        [string] => read_id(alloc, string.get()),
+        _ => Err(PlanFault::Reason(Reason::ManyVersions)),
+    }
+}
+
+/// The identifiers that the strings are.
+fn read_ids(alloc: Global, strings: &[Bytes]) -> Result<Vec<Id>, PlanFault>
+    requires printable { ArePrintable strings.now }
+    ensures ok { IfOk result (λ ids. first_row (id_rows strings.now) strings.now ≡ Ok ids.items) }
+    ensures fault { IfErr result (λ fault. Refuses fault (first_row (id_rows strings.now) strings.now)) }
+{
+    let mut ids = Vec::with_capacity(alloc, strings.len())?;
+    for string in strings {
+        let id = read_id(alloc, string.get())?;
+        ids.push(id)?;
+    }
+    Ok(ids)
+}
+
+/// The set of identifiers that the strings are.
+fn parents_of(alloc: Global, strings: &ListBytes) -> Result<Frontier, PlanFault>
+    requires printable { ArePrintable strings.now }
+    ensures parents { Plans result (first_row (parent_rows strings.now) (rising_ids strings.now)) }
+{
+    let ids = read_ids(alloc, strings.get())?;
+    if ids.len() > MOST_MEMBERS {
+        return Err(PlanFault::Memory);
+    }
+    let parents = Frontier::of(ids)?;
+    if parents.len() > MOST_PARENTS {
+        return Err(PlanFault::Reason(Reason::TooManyParents));
+    }
+    Ok(parents)
+}
+
+/// The identifier and the parents that the lines of `Version` and `Parents` tell.
+pub(crate) fn names(alloc: Global, parts: &Parts) -> Result<(Id, Frontier), PlanFault>
+    ensures names { Plans result (first_row (name_rows parts.now) (names_of parts.now)) }
+{
+    let version = members(alloc, &parts.version)?;
+    let parents = members(alloc, &parts.parents)?;
+    let id = version_id(alloc, &version)?;
+    let parents = parents_of(alloc, &parents)?;
+    Ok((id, parents))
+}

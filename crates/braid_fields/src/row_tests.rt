@@ -1,0 +1,242 @@
+use super::Reason::{
+    Backwards, BadCount, BadId, BadLength, BadList, BadRange, Encoded, ManyVersions, NoLength,
+    NoRange, NoVersion, OtherMergeType, OtherUnit, Overlap, RepeatedField, TooLong, TooManyPatches,
+};
+use super::tests::{fields_of, head_reason, reason_of};
+use super::*;
+use std::alloc::Global;
+use std::test::Fail;
+
+/// The reason against a head of `Version: "a"` and these lines.
+fn reason_behind(alloc: Global, lines: &str) -> Result<Option<Reason>, Fail> {
+    let head = format!(in alloc; "Version: \"a\"\n{lines}")?;
+    head_reason(alloc, head.as_bytes())
+}
+
+#[test]
+fn the_rows_on_fields_give_their_reasons(rt: HostRuntime) -> Result<(), Fail> {
+    let alloc = rt.alloc();
+    let rows = [
+        ("Content-Length: 0\n", None),
+        (
+            "PARENTS: \"b\"\nContent-length: 5\nOther: x\nOther: y\n",
+            None,
+        ),
+        ("Transfer-Encoding:\n", Some(Encoded)),
+        ("Content-Encoding: gzip\n", Some(Encoded)),
+        ("Content-Encoding:\n", Some(Encoded)),
+        (
+            "Content-Encoding: IDENTITY\nContent-Encoding: identity\nPatches: 0\n",
+            None,
+        ),
+        ("Patches: 1\nPatches: 1\n", Some(RepeatedField)),
+        (
+            "Patches: 1\nContent-Length: 1\ncontent-length: 1\n",
+            Some(RepeatedField),
+        ),
+        (
+            "Merge-Type: ti-text\nMerge-Type: ti-text\n",
+            Some(RepeatedField),
+        ),
+        ("Merge-Type: ti-text\nPatches: 0\n", None),
+        ("Merge-Type: \"ti-text\"\nPatches: 0\n", None),
+        ("Merge-Type: sync9\n", Some(OtherMergeType)),
+        ("Version:\n", Some(BadList)),
+        ("Version: \"b\"\n", Some(ManyVersions)),
+        ("Parents: \"b\";c\n", Some(BadList)),
+        ("Parents: \"b\", \"\"\n", Some(BadId)),
+    ];
+    for (lines, reason) in rows {
+        assert!(rt; reason_behind(alloc, lines)? == reason);
+    }
+    Ok(())
+}
+
+#[test]
+fn the_rows_on_a_version_give_their_reasons(rt: HostRuntime) -> Result<(), Fail> {
+    let alloc = rt.alloc();
+    let rows = [
+        (b"Version: \"a\",\n".as_slice(), BadList),
+        (b"Version: a\n", BadList),
+        (b"Parents: \"b\"\nContent-Length: 1\n", NoVersion),
+        (b"Version:\n", NoVersion),
+        (b"Version: \"a\", \"a\"\n", ManyVersions),
+        (b"Version: \"\"\n", BadId),
+    ];
+    for (lines, reason) in rows {
+        assert!(rt; head_reason(alloc, lines)? == Some(reason));
+    }
+    Ok(())
+}
+
+#[test]
+fn the_rows_on_a_content_give_their_reasons(rt: HostRuntime) -> Result<(), Fail> {
+    let alloc = rt.alloc();
+    let rows = [
+        ("Patches: 0\n", None),
+        ("Patches: -0\n", None),
+        ("Patches: 1000\n", None),
+        ("Patches: 1001\n", Some(TooManyPatches)),
+        ("Patches: -1\n", Some(BadCount)),
+        ("Patches: 1, 2\n", Some(BadCount)),
+        ("Patches: 1;a\n", Some(BadCount)),
+        ("Patches:\n", Some(BadCount)),
+        ("Patches: 1\nContent-Length: x\n", None),
+        ("", Some(NoLength)),
+        ("Content-Length:\n", Some(BadLength)),
+        ("Content-Length: +1\n", Some(BadLength)),
+        ("Content-Length: 0000000000000001\n", Some(BadLength)),
+        ("Content-Length: 000000001048576\n", None),
+        ("Content-Length: 1048577\n", Some(TooLong)),
+        ("Content-Length: 999999999999999\n", Some(TooLong)),
+    ];
+    for (lines, reason) in rows {
+        assert!(rt; reason_behind(alloc, lines)? == reason);
+    }
+    Ok(())
+}
+
+#[test]
+fn the_rows_on_a_range_give_their_reasons(rt: HostRuntime) -> Result<(), Fail> {
+    let alloc = rt.alloc();
+    let rows = [
+        (
+            "Content-Length: 1\nContent-Range: text  [3:4294967295]\n",
+            None,
+        ),
+        (
+            "Content-Length: 1\nContent-Range: bytes [0:1]\n",
+            Some(OtherUnit),
+        ),
+        (
+            "Content-Length: 1\nContent-Range: text[0:1]\n",
+            Some(OtherUnit),
+        ),
+        (
+            "Content-Length: 1\nContent-Range: text [0:4294967296]\n",
+            Some(BadRange),
+        ),
+        ("Content-Length: 1\nContent-Range: text\n", Some(BadRange)),
+        (
+            "Content-Length: 1\nContent-Range: text [1:0]\n",
+            Some(Backwards),
+        ),
+        ("Patches: 1\nContent-Range: text [0:0]\n", Some(BadRange)),
+        ("Patches: 1\nContent-Range: bytes [0:0]\n", Some(OtherUnit)),
+    ];
+    for (lines, reason) in rows {
+        assert!(rt; reason_behind(alloc, lines)? == reason);
+    }
+    Ok(())
+}
+
+#[test]
+fn the_first_row_counts(rt: HostRuntime) -> Result<(), Fail> {
+    let alloc = rt.alloc();
+    let rows = [
+        (
+            b"Transfer-Encoding: x\nPatches: 1\nPatches: 1\n".as_slice(),
+            Encoded,
+        ),
+        (b"Merge-Type: x\nMerge-Type: y\n", RepeatedField),
+        (b"Merge-Type: x\nVersion: a\n", OtherMergeType),
+        (b"Version:\nParents: b\n", BadList),
+        (b"Version:\nParents: \"\"\n", NoVersion),
+        (b"Version: \"\", \"\"\n", ManyVersions),
+        (b"Version: \"\"\nPatches: x\n", BadId),
+        (b"Version: \"a\"\nPatches: x\nContent-Range: x\n", BadCount),
+        (
+            b"Version: \"a\"\nPatches: 1001\nContent-Range: x\n",
+            TooManyPatches,
+        ),
+        (b"Version: \"a\"\nContent-Range: x\n", NoLength),
+        (
+            b"Version: \"a\"\nContent-Length: x\nContent-Range: x\n",
+            BadLength,
+        ),
+        (
+            b"Version: \"a\"\nContent-Length: 1048577\nContent-Range: x\n",
+            TooLong,
+        ),
+    ];
+    for (lines, reason) in rows {
+        assert!(rt; head_reason(alloc, lines)? == Some(reason));
+    }
+    Ok(())
+}
+
+#[test]
+fn the_rows_of_a_patch_give_their_reasons(rt: HostRuntime) -> Result<(), Fail> {
+    let alloc = rt.alloc();
+    let rows = [
+        (
+            b"Content-Length: 6\nContent-Range: text [7:7]\n".as_slice(),
+            None,
+        ),
+        (
+            b"Content-Length: 6\nContent-Range: text [7:9]\nPatches: x\nMerge-Type: x\n",
+            None,
+        ),
+        (
+            b"Content-Length: 7\nContent-Range: text [7:9]\n",
+            Some(TooLong),
+        ),
+        (b"Transfer-Encoding: x\n", Some(Encoded)),
+        (b"Content-Encoding: br\n", Some(Encoded)),
+        (
+            b"Content-Length: 1\nContent-Length: 1\n",
+            Some(RepeatedField),
+        ),
+        (b"Content-Range: x\nContent-Range: x\n", Some(RepeatedField)),
+        (b"Content-Range: x\n", Some(NoLength)),
+        (b"Content-Length: -1\n", Some(BadLength)),
+        (b"Content-Length: 1\n", Some(NoRange)),
+        (
+            b"Content-Length: 1\nContent-Range: json [0:0]\n",
+            Some(OtherUnit),
+        ),
+        (
+            b"Content-Length: 1\nContent-Range: text [0:]\n",
+            Some(BadRange),
+        ),
+        (
+            b"Content-Length: 1\nContent-Range: text [6:5]\n",
+            Some(Backwards),
+        ),
+        (
+            b"Content-Length: 1\nContent-Range: text [6:9]\n",
+            Some(Overlap),
+        ),
+    ];
+    for (lines, reason) in rows {
+        let fields = fields_of(alloc, lines)?;
+        assert!(rt; plan_patch(&fields, 1_048_570, 7).err() == reason);
+    }
+    Ok(())
+}
+
+#[test]
+fn a_put_takes_the_length_of_its_body(rt: HostRuntime) -> Result<(), Fail> {
+    let alloc = rt.alloc();
+    let rows = [
+        (b"Version: \"a\"\n".as_slice(), 1_048_576, None),
+        (b"Version: \"a\"\n", 1_048_577, Some(TooLong)),
+        (
+            b"Version: \"a\"\nContent-Length: x\nContent-Length: y\n",
+            0,
+            None,
+        ),
+        (b"Version: \"a\"\nPatches: 3\n", 2_097_152, None),
+        (
+            b"Version: \"a\"\nContent-Range: text [2:1]\n",
+            0,
+            Some(Backwards),
+        ),
+        (b"Version: \"a\"\nContent-Encoding: x\n", 0, Some(Encoded)),
+    ];
+    for (lines, len, reason) in rows {
+        let fields = fields_of(alloc, lines)?;
+        assert!(rt; reason_of(plan_put(alloc, &fields.parts, len))? == reason);
+    }
+    Ok(())
+}
