@@ -1,0 +1,8 @@
+pub mod Lines
+pub mod Heads
+pub mod Outcomes
+pub mod Readings
+pub mod Streams
+pub mod FaultPlaces
+pub mod Held
+pub mod Readers

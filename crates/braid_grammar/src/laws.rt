@@ -1,0 +1,83 @@
+//! Laws of the definitions, each the contract of a function that does nothing.
+
+ghost use Rattle.std.specs.Prelude.{◌≡◌, ◌≤◌, ◌+◌, ◌⊎◌, ◌∷◌, ◌++◌, [], List, ℕ, false, Ok, Err, length};
+ghost use Rattle.braid_change.specs.Texts.{IsTextOf};
+ghost use Rattle.braid_change.specs.Updates.{UpdateView};
+ghost use Rattle.braid_change.specs.Spellings.{canonical};
+ghost use Rattle.braid_fields.specs.declared.reason.Reason.{Reason};
+ghost use Rattle.braid_fields.specs.declared.reason.Reason.TheVariants.{BadLine, NotText};
+ghost use Rattle.braid_fields.specs.declared.plan.Asks.TheVariants.{Body};
+ghost use Rattle.braid_fields.specs.declared.plan.Plan.{Plan};
+ghost use Rattle.braid_fields.specs.Lines.{is_empty_line};
+ghost use Rattle.braid_fields.specs.Fields.{Field, IsFieldLine};
+ghost use Rattle.braid_fields.specs.Table.{judge_head};
+ghost use Rattle.braid_grammar.specs.Lines.{IsLine, join};
+ghost use Rattle.braid_grammar.specs.Outcomes.{head_limit, Whole};
+ghost use Rattle.braid_grammar.specs.Readings.{next_at};
+ghost use Rattle.braid_grammar.specs.Streams.{IsGap, HoldFields, IsHead, SpellsUpdate, IsStream, IsFault, Completes, IsTorn};
+ghost use Rattle.braid_grammar.specs.FaultPlaces.{IsWrongAt};
+ghost use Rattle.braid_grammar.specs.Held.{IsUpdate};
+
+/// Bytes are a stream of one list of updates, or have a fault at one place for one reason, or neither. Where there is
+/// a fault, it is the fault of all bytes that go on from these, and none of them are a stream.
+pub fn one_reading()
+    ensures decided { (b : List ℕ) → ((us : List UpdateView) × IsStream us b) ⊎ (((at : ℕ) × (r : Reason) × IsFault b at r) ⊎ IsTorn b) }
+    ensures stream { (us vs : List UpdateView) (b : List ℕ) → IsStream us b → IsStream vs b → us ≡ vs }
+    ensures fault { (b : List ℕ) (at to : ℕ) (r s : Reason) → IsFault b at r → IsFault b to s → (at ≡ to) × (r ≡ s) }
+    ensures apart { (us : List UpdateView) (b : List ℕ) (at : ℕ) (r : Reason) → IsStream us b → IsFault b at r → ⊥ }
+    ensures stays { (b more : List ℕ) (at : ℕ) (r : Reason) → IsFault b at r → IsFault (b ++ more) at r }
+    ensures never { (us : List UpdateView) (b more : List ℕ) (at : ℕ) (r : Reason) → IsFault b at r → IsStream us (b ++ more) → ⊥ }
+{}
+
+/// The updates that bytes hold whole are one list, and those of a stream are its own.
+pub fn one_list()
+    ensures one { (us vs : List UpdateView) (b : List ℕ) → Completes us b → Completes vs b → us ≡ vs }
+    ensures stream { (us : List UpdateView) (b : List ℕ) → IsStream us b → Completes us b }
+{}
+
+/// Where a fault stands, a line, a head or a content is wrong, for the reason that the fault has.
+pub fn fault_has_a_place()
+    ensures law { (b : List ℕ) (at : ℕ) (r : Reason) → IsFault b at r → IsWrongAt b at r }
+{}
+
+/// Behind a stream and a gap, each of these is the fault: a line behind field lines that is neither empty nor a field
+/// line; a head with a reason against it; a body that is no text.
+pub fn what_is_wrong_is_a_fault()
+    ensures line { (us : List UpdateView) (front gap : List ℕ) (fs : List Field) (lines : List (List ℕ)) (line more : List ℕ) → IsStream us front → IsGap gap → HoldFields fs lines → 1 ≤ length lines
+        → IsLine line → is_empty_line line ≡ false → ((name value : List ℕ) → IsFieldLine name value line → ⊥) → length (join lines ++ line) ≤ head_limit
+        → IsFault (front ++ (gap ++ (join lines ++ (line ++ more)))) (length front + length gap + length (join lines)) BadLine }
+    ensures head { (us : List UpdateView) (front gap head more : List ℕ) (fs : List Field) (r : Reason) → IsStream us front → IsGap gap → IsHead fs head → judge_head fs ≡ Err r
+        → IsFault (front ++ (gap ++ (head ++ more))) (length front + length gap) r }
+    ensures content { (us : List UpdateView) (front gap head content more : List ℕ) (fs : List Field) (plan : Plan) → IsStream us front → IsGap gap → IsHead fs head
+        → judge_head fs ≡ Ok plan → plan.asks ≡ Body (length content) → ((text : List ℕ) → IsTextOf text content → ⊥)
+        → IsFault (front ++ (gap ++ (head ++ (content ++ more)))) (length front + length gap + length head) NotText }
+{}
+
+/// No bytes spell two updates, and none begin with two: what is spelled first is one update, with one rest behind it.
+pub fn one_update()
+    ensures law { (u v : UpdateView) (bytes : List ℕ) → SpellsUpdate u bytes → SpellsUpdate v bytes → u ≡ v }
+    ensures first { (u v : UpdateView) (gap first rest other second left : List ℕ) → IsGap gap → SpellsUpdate u first → IsGap other → SpellsUpdate v second
+        → gap ++ (first ++ rest) ≡ other ++ (second ++ left) → (u ≡ v) × (rest ≡ left) }
+{}
+
+/// What is spelled is an update that the program can hold.
+pub fn spelled_is_built()
+    ensures law { (u : UpdateView) (bytes : List ℕ) → SpellsUpdate u bytes → IsUpdate u }
+{}
+
+/// The canonical spelling of an update that the program can hold is a spelling of it and a gap, so a stream of this one
+/// update; and whatever follows it, the first update is this one.
+pub fn canonical_is_read()
+    ensures front { (u : UpdateView) → IsUpdate u → (front : List ℕ) × (rest : List ℕ) × SpellsUpdate u front × IsGap rest × (canonical u ≡ front ++ rest) }
+    ensures stream { (u : UpdateView) → IsUpdate u → IsStream (u ∷ []) (canonical u) }
+    ensures first { (u v : UpdateView) (gap first rest more : List ℕ) → IsUpdate u → IsGap gap → SpellsUpdate v first
+        → canonical u ++ more ≡ gap ++ (first ++ rest) → v ≡ u }
+{}
+
+/// The reader of whole lists takes for the next update exactly what is spelled after a gap, and leaves the rest.
+pub fn next_is_spelled()
+    ensures found { (u : UpdateView) (at to : ℕ) (bytes rest : List ℕ) → next_at at bytes ≡ Whole u to rest
+        → (gap : List ℕ) × (first : List ℕ) × IsGap gap × SpellsUpdate u first × (bytes ≡ gap ++ (first ++ rest)) × (to ≡ at + length gap + length first) }
+    ensures spelled { (u : UpdateView) (at : ℕ) (gap first rest : List ℕ) → IsGap gap → SpellsUpdate u first
+        → next_at at (gap ++ (first ++ rest)) ≡ Whole u (at + length gap + length first) rest }
+{}

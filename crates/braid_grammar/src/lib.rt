@@ -1,0 +1,24 @@
+//! The update stream: which bytes spell updates, and what is wrong with bytes that spell none.
+//!
+//! A stream is any number of updates, each after empty lines. An update is a head of field lines in the manner of
+//! RFC 9112, and the content that the head asks for: a body, or patches with heads of their own. `laws` says that
+//! bytes are a stream of one list of updates, or have one fault at one place, or neither, and end within an update;
+//! and that the canonical spelling of an update is read as that update, whatever follows it. `read_stream` reads a
+//! whole slice by these definitions.
+//!
+//! Nothing here reads a connection or keeps a part of an update between calls: that is for the crates above.
+#![tactic(auto)]
+
+mod content;
+mod found;
+mod head;
+pub mod laws;
+mod line;
+mod patch;
+mod stream;
+mod update;
+
+pub use stream::{Stream, StreamEnd, read_stream};
+
+#[cfg(test)]
+mod tests;
