@@ -1,21 +1,9 @@
 -- Membership by cases on the list, and membership as clauses say it.
-use Rattle.std.proofs.Common.{◌≡◌, ℕ, ◌<◌, List, [], ◌∷◌, length, get_or, map, reverse, zero, suc, arith, refl, ap, inl, inr}
+use Rattle.std.proofs.Common.{◌≡◌, List, [], ◌∷◌, map, reverse, refl, ap, inl, inr}
 use Rattle.std.specs.List.{Contains}
 use Rattle.std.proofs.lemmas.List.Sorted.{IsPermutation-reverse, IsPermutation-sym, Contains-permutation}
 use Rattle.braid_tree.specs.Trees.{Member}
-
-pub contains_member : {A : Type 0} (xs : List A) (x : A) → Contains xs x → Member x xs
-contains_member {A = A} xs x (k, l, e) = go xs k l e
-  where
-    go : (ys : List A) (k : ℕ) → k < length ys → get_or ys k x ≡ x → Member x ys
-    go [] k l e = absurd (omega arith)
-    go (y ∷ ys) zero l e = inl e
-    go (y ∷ ys) (suc k) l e = inr (go ys k (omega arith) e)
-
-pub member_contains : {A : Type 0} (xs : List A) (x : A) → Member x xs → Contains xs x
-member_contains [] x m = absurd m
-member_contains (y ∷ ys) x (inl e) = (zero, omega arith, e)
-member_contains (y ∷ ys) x (inr m) = let c = member_contains ys x m in (suc c.0, omega (arith, c.1), c.2)
+pub use Rattle.braid_tree.proofs.Member.{contains_member, member_contains}
 
 pub member_map : {A B : Type 0} (f : A → B) (x : A) (xs : List A) → Member x xs → Member (f x) (map f xs)
 member_map f x [] m = absurd m

@@ -3,7 +3,7 @@ use Rattle.std.proofs.Common.{◌≡◌, ℕ, ◌+◌, ◌-◌, List, [], ◌∷
 use Rattle.braid_tree.specs.Keys.{Key, key_cmp}
 use Rattle.braid_tree.specs.Nodes.{Node}
 use Rattle.braid_change.specs.Updates.{UpdateView}
-use Rattle.braid_text.specs.Versions.{Version, document_in, has_version, versions_of, seen_in, version_of, text_in}
+use Rattle.braid_text.specs.Versions.{Version, document_in, has_version, versions_in, seen_in, version_in, text_in}
 use Rattle.braid_text.specs.Histories.{IsLegalLog, Deletion, IsLegal, SameGraph, deletions_by, deletions_in, deletions_of, elements_by, elements_in, elements_of, entry_of, graph_of, versions_at}
 use Rattle.braid_tree.specs.Trees.{Member}
 use Rattle.braid_tree.proofs.Member.{member_append_left, member_append_right, member_append_cases}
@@ -97,21 +97,21 @@ length_deletions : (vs : List Version) → length (deletions_in vs) ≡ total (�
 length_deletions [] = refl
 length_deletions (v ∷ vs) = omega (arith, length-append (deletions_in vs) (deletions_by v), length-map {B = Deletion} v.deleted (λ (k : Key). record { key = k; by = v.id }), length_deletions vs)
 
-length_total : (us : List UpdateView) → length us ≡ total (λ (v : Version). 1) (versions_of us)
+length_total : (us : List UpdateView) → length us ≡ total (λ (v : Version). 1) (versions_in us)
 length_total [] = refl
 length_total (u ∷ us) = omega (arith, length_total us)
 
-versions_part : (us ks : List UpdateView) → IsLegalLog us → IsLegalLog ks → IsPartOf us ks → (w : Version) → Member w (versions_of us) → Member w (versions_of ks)
+versions_part : (us ks : List UpdateView) → IsLegalLog us → IsLegalLog ks → IsPartOf us ks → (w : Version) → Member w (versions_in us) → Member w (versions_in ks)
 versions_part us ks lu lk to w m = same_versions us lu ks lk (λ x y a b e. one_update ks lk x y (to x a) b e) w m (let a = update_of us w m in has ks w.id (a.0, to a.0 a.1, a.2))
 
-document_part : (us ks : List UpdateView) → IsLegalLog us → IsLegalLog ks → IsPartOf us ks → (z : Node Key) → Member z (document_in (versions_of us)) → Member z (document_in (versions_of ks))
-document_part us ks lu lk to z m = let p = (whole_legal us lu).placed z m in node_in (versions_of ks) p.0 z (versions_part us ks lu lk to p.0 p.1) p.2
+document_part : (us ks : List UpdateView) → IsLegalLog us → IsLegalLog ks → IsPartOf us ks → (z : Node Key) → Member z (document_in (versions_in us)) → Member z (document_in (versions_in ks))
+document_part us ks lu lk to z m = let p = (whole_legal us lu).placed z m in node_in (versions_in ks) p.0 z (versions_part us ks lu lk to p.0 p.1) p.2
 
-elements_part : (us ks : List UpdateView) → IsLegalLog us → IsLegalLog ks → IsPartOf us ks → (e : Element) → Member e (elements_in (versions_of us)) → Member e (elements_in (versions_of ks))
-elements_part us ks lu lk to e m = let r = element_version (versions_of us) e m in version_element (versions_of ks) r.0 e (versions_part us ks lu lk to r.0 r.1) r.2
+elements_part : (us ks : List UpdateView) → IsLegalLog us → IsLegalLog ks → IsPartOf us ks → (e : Element) → Member e (elements_in (versions_in us)) → Member e (elements_in (versions_in ks))
+elements_part us ks lu lk to e m = let r = element_version (versions_in us) e m in version_element (versions_in ks) r.0 e (versions_part us ks lu lk to r.0 r.1) r.2
 
-deletions_part : (us ks : List UpdateView) → IsLegalLog us → IsLegalLog ks → IsPartOf us ks → (d : Deletion) → Member d (deletions_in (versions_of us)) → Member d (deletions_in (versions_of ks))
-deletions_part us ks lu lk to d m = let r = deletion_version (versions_of us) d m in version_deletion (versions_of ks) r.0 d (versions_part us ks lu lk to r.0 r.1) r.2
+deletions_part : (us ks : List UpdateView) → IsLegalLog us → IsLegalLog ks → IsPartOf us ks → (d : Deletion) → Member d (deletions_in (versions_in us)) → Member d (deletions_in (versions_in ks))
+deletions_part us ks lu lk to d m = let r = deletion_version (versions_in us) d m in version_deletion (versions_in ks) r.0 d (versions_part us ks lu lk to r.0 r.1) r.2
 
 entries_part : (us ks : List UpdateView) → IsPartOf us ks → (e : GraphEntry) → Contains (graph_of us) e → Contains (graph_of ks) e
 entries_part us ks to e c = let r = member_from_map entry_of e us (contains_member (graph_of us) e c) in member_contains (graph_of ks) e (subst (λ (t : GraphEntry). Member t (graph_of ks)) r.2 (member_map entry_of r.0 ks (to r.0 r.1)))
@@ -142,10 +142,10 @@ find_same us ks lu lk to from v = go (find_in v us) (find_in v ks) refl refl
     go (Some w) b e f = sym (found_same us ks lk to v w e) ∙ f
     go None (Some w) e f = sym e ∙ found_same ks us lu from v w f
 
-has_same : (us ks : List UpdateView) → IsPartOf us ks → IsPartOf ks us → (v : List ℕ) → has_version v (versions_of us) ≡ has_version v (versions_of ks)
-has_same us ks to from v = go (has_version v (versions_of us)) (has_version v (versions_of ks)) refl refl
+has_same : (us ks : List UpdateView) → IsPartOf us ks → IsPartOf ks us → (v : List ℕ) → has_version v (versions_in us) ≡ has_version v (versions_in ks)
+has_same us ks to from v = go (has_version v (versions_in us)) (has_version v (versions_in ks)) refl refl
   where
-    go : (a b : Bool) → has_version v (versions_of us) ≡ a → has_version v (versions_of ks) ≡ b → a ≡ b
+    go : (a b : Bool) → has_version v (versions_in us) ≡ a → has_version v (versions_in ks) ≡ b → a ≡ b
     go true true e f = refl
     go false false e f = refl
     go true false e f = absurd (let t = has ks v (has_part us ks to v (held us v e)) in cc)
@@ -153,7 +153,7 @@ has_same us ks to from v = go (has_version v (versions_of us)) (has_version v (v
 
 missing_same : (us ks : List UpdateView) → IsPartOf us ks → IsPartOf ks us → (ps : List (List ℕ)) → first_missing ps us ≡ first_missing ps ks
 missing_same us ks to from [] = refl
-missing_same us ks to from (p ∷ ps) = ap (λ (b : Bool). cond b (first_missing ps us) (Some p)) (has_same us ks to from p) ∙ ap (λ o. cond (has_version p (versions_of ks)) o (Some p)) (missing_same us ks to from ps)
+missing_same us ks to from (p ∷ ps) = ap (λ (b : Bool). cond b (first_missing ps us) (Some p)) (has_same us ks to from p) ∙ ap (λ o. cond (has_version p (versions_in ks)) o (Some p)) (missing_same us ks to from ps)
 
 module _ (us ks : List UpdateView) (lu : IsLegalLog us) (lk : IsLegalLog ks) (to : IsPartOf us ks) (from : IsPartOf ks us) where
   compatible : Compatible us ks
@@ -162,17 +162,17 @@ module _ (us ks : List UpdateView) (lu : IsLegalLog us) (lk : IsLegalLog ks) (to
   back_compatible : Compatible ks us
   back_compatible x y a b e = one_update us lu x y (from x a) b e
 
-  totals : (f : Version → ℕ) → total f (versions_of us) ≡ total f (versions_of ks)
-  totals f = total_same f (versions_of us) (versions_of ks) (ordered_differ (versions_of us) (whole_legal us lu).ordered) (ordered_differ (versions_of ks) (whole_legal ks lk).ordered) (versions_part us ks lu lk to) (versions_part ks us lk lu from)
+  totals : (f : Version → ℕ) → total f (versions_in us) ≡ total f (versions_in ks)
+  totals f = total_same f (versions_in us) (versions_in ks) (ordered_differ (versions_in us) (whole_legal us lu).ordered) (ordered_differ (versions_in ks) (whole_legal ks lk).ordered) (versions_part us ks lu lk to) (versions_part ks us lk lu from)
 
-  pub same_document : document_in (versions_of us) ≡ document_in (versions_of ks)
-  same_document = same_reading key_cmp keys_strict (document_in (versions_of us)) (document_in (versions_of ks)) (whole_legal us lu).tree.reading (whole_legal ks lk).tree.reading (document_part us ks lu lk to) (document_part ks us lk lu from)
+  pub same_document : document_in (versions_in us) ≡ document_in (versions_in ks)
+  same_document = same_reading key_cmp keys_strict (document_in (versions_in us)) (document_in (versions_in ks)) (whole_legal us lu).tree.reading (whole_legal ks lk).tree.reading (document_part us ks lu lk to) (document_part ks us lk lu from)
 
-  same_elements : length (elements_in (versions_of us)) ≡ length (elements_in (versions_of ks))
-  same_elements = length_elements (versions_of us) ∙ totals (λ (v : Version). length v.nodes) ∙ sym (length_elements (versions_of ks))
+  same_elements : length (elements_in (versions_in us)) ≡ length (elements_in (versions_in ks))
+  same_elements = length_elements (versions_in us) ∙ totals (λ (v : Version). length v.nodes) ∙ sym (length_elements (versions_in ks))
 
-  same_deletions : length (deletions_in (versions_of us)) ≡ length (deletions_in (versions_of ks))
-  same_deletions = length_deletions (versions_of us) ∙ totals (λ (v : Version). length v.deleted) ∙ sym (length_deletions (versions_of ks))
+  same_deletions : length (deletions_in (versions_in us)) ≡ length (deletions_in (versions_in ks))
+  same_deletions = length_deletions (versions_in us) ∙ totals (λ (v : Version). length v.deleted) ∙ sym (length_deletions (versions_in ks))
 
   same_lengths : length us ≡ length ks
   same_lengths = length_total us ∙ totals (λ (v : Version). 1) ∙ sym (length_total ks)
@@ -180,27 +180,27 @@ module _ (us ks : List UpdateView) (lu : IsLegalLog us) (lk : IsLegalLog ks) (to
   pub same_room : (limits : Room) → room_in limits us ≡ room_in limits ks
   same_room limits = λ i. record { versions = limits.versions - same_lengths i; elements = limits.elements - same_elements i; deletions = limits.deletions - same_deletions i; width = limits.width }
 
-  held_there : (F : List (List ℕ)) → AllHeld (versions_of us) F → AllHeld (versions_of ks) F
+  held_there : (F : List (List ℕ)) → AllHeld (versions_in us) F → AllHeld (versions_in ks) F
   held_there F h i m = sym (has_same us ks to from i) ∙ h i m
 
-  pub same_seen : (F : List (List ℕ)) → AllHeld (versions_of us) F → seen_in (versions_of us) F ≡ seen_in (versions_of ks) F
+  pub same_seen : (F : List (List ℕ)) → AllHeld (versions_in us) F → seen_in (versions_in us) F ≡ seen_in (versions_in ks) F
   same_seen F h = same_read us ks lu lk compatible F h (held_there F h)
 
-  version_same : (u : UpdateView) → AllHeld (versions_of us) u.parents → version_of u (versions_of us) ≡ version_of u (versions_of ks)
-  version_same u h = version_agrees u (versions_of us) (versions_of ks) (same_seen u.parents h)
-      (let a = greatest_agrees (versions_of us) (versions_of ks) (same_versions us lu ks lk compatible) u.parents (held_there u.parents h) in let b = greatest_agrees (versions_of ks) (versions_of us) (same_versions ks lk us lu back_compatible) u.parents h in omega (arith, a, b))
+  version_same : (u : UpdateView) → AllHeld (versions_in us) u.parents → version_in u (versions_in us) ≡ version_in u (versions_in ks)
+  version_same u h = version_agrees u (versions_in us) (versions_in ks) (same_seen u.parents h)
+      (let a = greatest_agrees (versions_in us) (versions_in ks) (same_versions us lu ks lk compatible) u.parents (held_there u.parents h) in let b = greatest_agrees (versions_in ks) (versions_in us) (same_versions ks lk us lu back_compatible) u.parents h in omega (arith, a, b))
 
   fronts : (u : UpdateView) → frontier_of (graph_of (u ∷ us)) ≡ frontier_of (graph_of (u ∷ ks))
   fronts u = frontier_same (u ∷ us) (u ∷ ks) (λ x m. elim m [ inl e ↦ inl e | inr n ↦ inr (to x n) ]) (λ x m. elim m [ inl e ↦ inl e | inr n ↦ inr (from x n) ])
 
-  pub same_needs : (u : UpdateView) → AllHeld (versions_of us) u.parents → needs_in us u ≡ needs_in ks u
+  pub same_needs : (u : UpdateView) → AllHeld (versions_in us) u.parents → needs_in us u ≡ needs_in ks u
   same_needs u h = let v = version_same u h in let f = fronts u in λ i. record { versions = 1; elements = length (v i).nodes; deletions = length (v i).deleted; width = length (f i) }
 
   pub same_answer : (room : Room) (u : UpdateView) → answer_in room us u ≡ answer_in room ks u
   same_answer room u = go (find_in u.id us) (first_missing u.parents us) refl refl
     where
       text : List UpdateView → List ℕ
-      text os = text_in (versions_of os) u.parents
+      text os = text_in (versions_in os) u.parents
 
       each : (os : List UpdateView) (o : Option UpdateView) (p : Option (List ℕ)) → find_in u.id os ≡ o → first_missing u.parents os ≡ p → answer_in room os u ≡ answered u (length (text os)) o p (first_past (text os) u.change) (over (needs_in os u) room)
       each os o p a b = answer_by room os u o p (first_past (text os) u.change) (over (needs_in os u) room) a b refl refl
@@ -214,7 +214,7 @@ module _ (us ks : List UpdateView) (lu : IsLegalLog us) (lk : IsLegalLog ks) (to
           by None (Some v) e = refl
           by None None e = ap (λ (t : List ℕ). answered u (length t) None None (first_past t u.change) (over (needs_in us u) room)) (ap chars_of (same_seen u.parents all)) ∙ ap (λ (n : Room). answered u (length (text ks)) None None (first_past (text ks) u.change) (over n room)) (same_needs u all)
             where
-              all : AllHeld (versions_of us) u.parents
+              all : AllHeld (versions_in us) u.parents
               all i m = has us i (none_missing u.parents us e i m)
 
 pub are_alike : (H K : List UpdateView) → IsLegal H → IsLegal K → SameGraph H K → AreAlike H K

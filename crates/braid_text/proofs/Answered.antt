@@ -19,7 +19,7 @@ use Rattle.braid_text.specs.Answers.{same_update, find_in, first_missing, needs_
 use Rattle.braid_text.proofs.Held.{one_update}
 use Rattle.braid_tree.proofs.Keys.{ids_strict}
 use Rattle.braid_text.proofs.Ties.{holds_log, log_holds}
-use Rattle.braid_text.specs.Versions.{has_version, text_in, versions_of}
+use Rattle.braid_text.specs.Versions.{has_version, text_in, versions_in}
 use Rattle.braid_text.proofs.Judged.{fits_to, follows_from, missing_none, none_missing, not_found, updates_Decide, found}
 use Rattle.braid_rebase.proofs.Members.{contains_member, from_log, in_log, member_contains}
 use Rattle.braid_tree.proofs.Member.{all_member}
@@ -28,13 +28,13 @@ use Rattle.braid_text.proofs.Logs.{Has, follows_held, has_holds, holds_has, not_
 use Rattle.braid_text.specs.Histories.{Follows, IsLegal, graph_of}
 
 -- the first of rising identifiers that is missing is the least
-missing_named : (ps : List (List ℕ)) (us : List UpdateView) (p : List ℕ) → first_missing ps us ≡ Some p → Member p ps × (has_version p (versions_of us) ≡ false)
+missing_named : (ps : List (List ℕ)) (us : List UpdateView) (p : List ℕ) → first_missing ps us ≡ Some p → Member p ps × (has_version p (versions_in us) ≡ false)
 missing_named [] us p h = cc
-missing_named (q ∷ ps) us p h = go (has_version q (versions_of us)) refl h (missing_named ps us p)
+missing_named (q ∷ ps) us p h = go (has_version q (versions_in us)) refl h (missing_named ps us p)
   where
-    go : (b : Bool) → has_version q (versions_of us) ≡ b → cond b (first_missing ps us) (Some q) ≡ Some p → (first_missing ps us ≡ Some p → Member p ps × (has_version p (versions_of us) ≡ false)) → Member p (q ∷ ps) × (has_version p (versions_of us) ≡ false)
+    go : (b : Bool) → has_version q (versions_in us) ≡ b → cond b (first_missing ps us) (Some q) ≡ Some p → (first_missing ps us ≡ Some p → Member p ps × (has_version p (versions_in us) ≡ false)) → Member p (q ∷ ps) × (has_version p (versions_in us) ≡ false)
     go true e h ih = (inr (ih h).0, (ih h).1)
-    go false e h ih = let f : q ≡ p = cc in (inl f, subst (λ (t : List ℕ). has_version t (versions_of us) ≡ false) f e)
+    go false e h ih = let f : q ≡ p = cc in (inl f, subst (λ (t : List ℕ). has_version t (versions_in us) ≡ false) f e)
 
 rising_first : (q : List ℕ) (ps : List (List ℕ)) → IsRising (q ∷ ps) → (w : List ℕ) → Member w ps → id_cmp q w ≡ Less
 unfolding IsStrictlySortedBy
@@ -46,9 +46,9 @@ rising_rest q ps r = r.1
 
 missing_least : (ps : List (List ℕ)) (us : List UpdateView) (p : List ℕ) → IsRising ps → first_missing ps us ≡ Some p → (w : List ℕ) → Member w ps → (Has us w → ⊥) → id_cmp p w ≢ Greater
 missing_least [] us p r h w m out = absurd m
-missing_least (q ∷ ps) us p r h w m out = go (has_version q (versions_of us)) refl h m (λ k n. missing_least ps us p (rising_rest q ps r) k w n out)
+missing_least (q ∷ ps) us p r h w m out = go (has_version q (versions_in us)) refl h m (λ k n. missing_least ps us p (rising_rest q ps r) k w n out)
   where
-    go : (b : Bool) → has_version q (versions_of us) ≡ b → cond b (first_missing ps us) (Some q) ≡ Some p → Member w (q ∷ ps) → (first_missing ps us ≡ Some p → Member w ps → id_cmp p w ≢ Greater) → id_cmp p w ≢ Greater
+    go : (b : Bool) → has_version q (versions_in us) ≡ b → cond b (first_missing ps us) (Some q) ≡ Some p → Member w (q ∷ ps) → (first_missing ps us ≡ Some p → Member w ps → id_cmp p w ≢ Greater) → id_cmp p w ≢ Greater
     go true e h (inl f) ih = absurd (out (subst (Has us) f (held us q e)))
     go true e h (inr n) ih = ih h n
     go false e h (inl f) ih = λ g. (let a : q ≡ p = cc in let b : id_cmp p p ≡ Equal = tied_itself nat_list_cmp_total p in let c : id_cmp p p ≡ Greater = subst (λ (t : List ℕ). id_cmp p t ≡ Greater) (sym f ∙ a) g in cc)
@@ -119,22 +119,22 @@ abbrev pub answered : UpdateView → ℕ → Option UpdateView → Option (List 
 answered u len o p q full = unwrap_or (first (first (judge_held u o) (first (option_map UnknownParent p) (option_map (λ (n : ℕ). OutOfRange n len) q))) full) New
 
 pub answer_by : (room : Room) (us : List UpdateView) (u : UpdateView) (o : Option UpdateView) (p : Option (List ℕ)) (q : Option ℕ) (full : Option Accept)
-    → find_in u.id us ≡ o → first_missing u.parents us ≡ p → first_past (text_in (versions_of us) u.parents) u.change ≡ q → over (needs_in us u) room ≡ full
-    → answer_in room us u ≡ answered u (length (text_in (versions_of us) u.parents)) o p q full
+    → find_in u.id us ≡ o → first_missing u.parents us ≡ p → first_past (text_in (versions_in us) u.parents) u.change ≡ q → over (needs_in us u) room ≡ full
+    → answer_in room us u ≡ answered u (length (text_in (versions_in us) u.parents)) o p q full
 answer_by room us u o p q full a b c d =
-    let len : ℕ = length (text_in (versions_of us) u.parents) in
-    ap (λ x. answered u len x (first_missing u.parents us) (first_past (text_in (versions_of us) u.parents) u.change) (over (needs_in us u) room)) a
-    ∙ ap (λ x. answered u len o x (first_past (text_in (versions_of us) u.parents) u.change) (over (needs_in us u) room)) b
+    let len : ℕ = length (text_in (versions_in us) u.parents) in
+    ap (λ x. answered u len x (first_missing u.parents us) (first_past (text_in (versions_in us) u.parents) u.change) (over (needs_in us u) room)) a
+    ∙ ap (λ x. answered u len o x (first_past (text_in (versions_in us) u.parents) u.change) (over (needs_in us u) room)) b
     ∙ ap (λ x. answered u len o p x (over (needs_in us u) room)) c
     ∙ ap (λ x. answered u len o p q x) d
 
 pub refused_by : (us : List UpdateView) (u : UpdateView) (o : Option UpdateView) (p : Option (List ℕ)) (q : Option ℕ)
-    → find_in u.id us ≡ o → first_missing u.parents us ≡ p → first_past (text_in (versions_of us) u.parents) u.change ≡ q
-    → refusal_in us u ≡ first (judge_held u o) (first (option_map UnknownParent p) (option_map (λ (n : ℕ). OutOfRange n (length (text_in (versions_of us) u.parents))) q))
+    → find_in u.id us ≡ o → first_missing u.parents us ≡ p → first_past (text_in (versions_in us) u.parents) u.change ≡ q
+    → refusal_in us u ≡ first (judge_held u o) (first (option_map UnknownParent p) (option_map (λ (n : ℕ). OutOfRange n (length (text_in (versions_in us) u.parents))) q))
 refused_by us u o p q a b c =
-    let len : ℕ = length (text_in (versions_of us) u.parents) in
-    ap (λ x. first (judge_held u x) (first (option_map UnknownParent (first_missing u.parents us)) (option_map (λ (n : ℕ). OutOfRange n len) (first_past (text_in (versions_of us) u.parents) u.change)))) a
-    ∙ ap (λ x. first (judge_held u o) (first (option_map UnknownParent x) (option_map (λ (n : ℕ). OutOfRange n len) (first_past (text_in (versions_of us) u.parents) u.change)))) b
+    let len : ℕ = length (text_in (versions_in us) u.parents) in
+    ap (λ x. first (judge_held u x) (first (option_map UnknownParent (first_missing u.parents us)) (option_map (λ (n : ℕ). OutOfRange n len) (first_past (text_in (versions_in us) u.parents) u.change)))) a
+    ∙ ap (λ x. first (judge_held u o) (first (option_map UnknownParent x) (option_map (λ (n : ℕ). OutOfRange n len) (first_past (text_in (versions_in us) u.parents) u.change)))) b
     ∙ ap (λ x. first (judge_held u o) (first (option_map UnknownParent p) (option_map (λ (n : ℕ). OutOfRange n len) x))) c
 
 module _ (room : Room) (H : List UpdateView) (u : UpdateView) (legal : IsLegal H) (rising : IsRising u.parents) where
@@ -142,7 +142,7 @@ module _ (room : Room) (H : List UpdateView) (u : UpdateView) (legal : IsLegal H
   us = reverse H
 
   abbrev t : List ℕ
-  t = text_in (versions_of us) u.parents
+  t = text_in (versions_in us) u.parents
 
   not_holds : (Has us u.id → ⊥) → Holds (graph_of H) u.id → ⊥
   not_holds out h = out (holds_has us u.id (holds_log H u.id h))

@@ -22,7 +22,7 @@ use Rattle.braid_text.specs.Versions.{Version, deletes, document_in, has_version
 use Rattle.braid_text.proofs.Whole.{IsWhole, ancestry_member, and_cases, not_true, one_version, whole_legal}
 use Rattle.braid_text.specs.Documents.{IsDocument, IsSeen}
 use Rattle.braid_text.specs.Histories.{Deletion, IsLegal, ancestors_at, deletions_by, deletions_in, deletions_of, document_of, elements_by, elements_in, elements_of, graph_of, seen_at, versions_at}
-use Rattle.braid_tree.specs.Trees.{AreDistinct, Member}
+use Rattle.braid_tree.specs.Trees.{AreDistinct, IsTree, Member}
 
 -- the elements of versions are those that each adds, and likewise the deletions
 pub element_version : (vs : List Version) (e : Element) → Member e (elements_in vs) → (v : Version) × Member v vs × Member e (elements_by v)
@@ -84,6 +84,9 @@ module _ (H : List UpdateView) (legal : IsLegal H) where
       λ (v, c, k). member_contains (document_of H) x (node_in (versions_at H) v x (contains_member (versions_at H) v c) (contains_member v.nodes x k)),
     );
   }
+
+  pub is_tree : IsTree key_cmp (document_of H)
+  is_tree = whole.tree
 
   -- the elements are the nodes without their paths
   pub element_node : (e : Element) → Contains (elements_of H) e → (x : Node Key) × Contains (document_of H) x × (element_of x ≡ e)

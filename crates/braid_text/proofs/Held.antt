@@ -3,7 +3,7 @@ use Rattle.std.proofs.Common.{◌≡◌, ℕ, List, [], ◌∷◌, Bool, true, f
 use Rattle.std.specs.Ordering.{is_eq}
 use Rattle.braid_ids.specs.Identifiers.{id_cmp}
 use Rattle.braid_tree.specs.Keys.{Key}
-use Rattle.braid_text.specs.Versions.{Version, has_version, deletes, version_of, versions_of}
+use Rattle.braid_text.specs.Versions.{Version, has_version, deletes, version_in, versions_in}
 use Rattle.braid_graph.specs.Entries.{has_id, Holds, HoldsAll, ids_of}
 use Rattle.braid_rebase.specs.Additions.{has_key}
 use Rattle.braid_tree.specs.Trees.{Member}
@@ -56,29 +56,29 @@ member_deletes k v (w ∷ vs) (inl e) h = or_left (has_key k w.deleted) (deletes
 member_deletes k v (w ∷ vs) (inr m) h = or_right (has_key k w.deleted) (deletes k vs) (member_deletes k v vs m h)
 
 -- what a list of updates holds, its versions have, and the other way round
-pub held_version : (us : List UpdateView) (i : List ℕ) → Member i (ids_of (graph_of us)) → has_version i (versions_of us) ≡ true
+pub held_version : (us : List UpdateView) (i : List ℕ) → Member i (ids_of (graph_of us)) → has_version i (versions_in us) ≡ true
 held_version [] i m = absurd m
-held_version (u ∷ us) i (inl e) = or_left (is_eq (id_cmp i u.id)) (has_version i (versions_of us)) (subst (λ (t : List ℕ). is_eq (id_cmp i t) ≡ true) (sym e) (eq_itself id_cmp ids_strict i))
-held_version (u ∷ us) i (inr m) = or_right (is_eq (id_cmp i u.id)) (has_version i (versions_of us)) (held_version us i m)
+held_version (u ∷ us) i (inl e) = or_left (is_eq (id_cmp i u.id)) (has_version i (versions_in us)) (subst (λ (t : List ℕ). is_eq (id_cmp i t) ≡ true) (sym e) (eq_itself id_cmp ids_strict i))
+held_version (u ∷ us) i (inr m) = or_right (is_eq (id_cmp i u.id)) (has_version i (versions_in us)) (held_version us i m)
 
-pub version_held : (us : List UpdateView) (i : List ℕ) → has_version i (versions_of us) ≡ true → Member i (ids_of (graph_of us))
+pub version_held : (us : List UpdateView) (i : List ℕ) → has_version i (versions_in us) ≡ true → Member i (ids_of (graph_of us))
 version_held [] i h = cc
-version_held (u ∷ us) i h = elim (or_cases (is_eq (id_cmp i u.id)) (has_version i (versions_of us)) h) [
+version_held (u ∷ us) i h = elim (or_cases (is_eq (id_cmp i u.id)) (has_version i (versions_in us)) h) [
   | inl e ↦ inl (sym (eq_true id_cmp ids_strict i u.id e))
   | inr t ↦ inr (version_held us i t)
 ]
 
-pub holds_version : (us : List UpdateView) (i : List ℕ) → Holds (graph_of us) i → has_version i (versions_of us) ≡ true
+pub holds_version : (us : List UpdateView) (i : List ℕ) → Holds (graph_of us) i → has_version i (versions_in us) ≡ true
 holds_version us i c = held_version us i (contains_member (ids_of (graph_of us)) i c)
 
-pub version_holds : (us : List UpdateView) (i : List ℕ) → has_version i (versions_of us) ≡ true → Holds (graph_of us) i
+pub version_holds : (us : List UpdateView) (i : List ℕ) → has_version i (versions_in us) ≡ true → Holds (graph_of us) i
 version_holds us i h = member_contains (ids_of (graph_of us)) i (version_held us i h)
 
 -- the identifier of an update that may follow is new, and its parents are there
-pub new_in : (us : List UpdateView) (u : UpdateView) → Follows us u → has_version u.id (versions_of us) ≡ false
-new_in us u follows = go (has_version u.id (versions_of us)) refl
+pub new_in : (us : List UpdateView) (u : UpdateView) → Follows us u → has_version u.id (versions_in us) ≡ false
+new_in us u follows = go (has_version u.id (versions_in us)) refl
   where
-    go : (b : Bool) → has_version u.id (versions_of us) ≡ b → b ≡ false
+    go : (b : Bool) → has_version u.id (versions_in us) ≡ b → b ≡ false
     go true e = absurd (follows.new (version_holds us u.id e))
     go false e = refl
 
@@ -86,13 +86,13 @@ new_in us u follows = go (has_version u.id (versions_of us)) refl
 abbrev pub AllHeld : List Version → List (List ℕ) → Type 0
 AllHeld vs F = (i : List ℕ) → Member i F → has_version i vs ≡ true
 
-pub holds_all : (us : List UpdateView) (F : List (List ℕ)) → HoldsAll (graph_of us) F → AllHeld (versions_of us) F
+pub holds_all : (us : List UpdateView) (F : List (List ℕ)) → HoldsAll (graph_of us) F → AllHeld (versions_in us) F
 holds_all us F held i m = holds_version us i (held i (member_contains F i m))
 
-pub all_holds : (us : List UpdateView) (F : List (List ℕ)) → AllHeld (versions_of us) F → HoldsAll (graph_of us) F
+pub all_holds : (us : List UpdateView) (F : List (List ℕ)) → AllHeld (versions_in us) F → HoldsAll (graph_of us) F
 all_holds us F held i c = version_holds us i (held i (contains_member F i c))
 
-pub parents_in : (us : List UpdateView) (u : UpdateView) → Follows us u → AllHeld (versions_of us) u.parents
+pub parents_in : (us : List UpdateView) (u : UpdateView) → Follows us u → AllHeld (versions_in us) u.parents
 parents_in us u follows = holds_all us u.parents follows.parents_held
 
 pub has_version_more : (i : List ℕ) (v : Version) (vs : List Version) → has_version i vs ≡ true → has_version i (v ∷ vs) ≡ true
@@ -102,21 +102,21 @@ has_version_more i v vs h = more (version_member i vs h)
     more (w, m, e) = subst (λ (t : List ℕ). has_version t (v ∷ vs) ≡ true) e (member_version w (v ∷ vs) (inr m))
 
 -- an update of a log has its version
-pub update_version : (us : List UpdateView) (u : UpdateView) → Member u us → has_version u.id (versions_of us) ≡ true
+pub update_version : (us : List UpdateView) (u : UpdateView) → Member u us → has_version u.id (versions_in us) ≡ true
 update_version [] u m = absurd m
-update_version (w ∷ us) u (inl e) = subst (λ (t : UpdateView). has_version t.id (versions_of (w ∷ us)) ≡ true) e (member_version (version_of w (versions_of us)) (versions_of (w ∷ us)) (inl refl))
-update_version (w ∷ us) u (inr m) = has_version_more u.id (version_of w (versions_of us)) (versions_of us) (update_version us u m)
+update_version (w ∷ us) u (inl e) = subst (λ (t : UpdateView). has_version t.id (versions_in (w ∷ us)) ≡ true) e (member_version (version_in w (versions_in us)) (versions_in (w ∷ us)) (inl refl))
+update_version (w ∷ us) u (inr m) = has_version_more u.id (version_in w (versions_in us)) (versions_in us) (update_version us u m)
 
 -- updates of a legal log differ in their identifiers
 pub one_update : (us : List UpdateView) → IsLegalLog us → (a b : UpdateView) → Member a us → Member b us → a.id ≡ b.id → a ≡ b
 one_update [] legal a b m n e = absurd m
 one_update (u ∷ us) legal a b (inl f) (inl g) e = sym f ∙ g
-one_update (u ∷ us) legal a b (inl f) (inr n) e = absurd (let t : has_version u.id (versions_of us) ≡ true = subst (λ (i : List ℕ). has_version i (versions_of us) ≡ true) (sym e ∙ ap (λ (t : UpdateView). t.id) (sym f)) (update_version us b n) in let g = new_in us u legal.0 in cc)
-one_update (u ∷ us) legal a b (inr m) (inl g) e = absurd (let t : has_version u.id (versions_of us) ≡ true = subst (λ (i : List ℕ). has_version i (versions_of us) ≡ true) (e ∙ ap (λ (t : UpdateView). t.id) (sym g)) (update_version us a m) in let f = new_in us u legal.0 in cc)
+one_update (u ∷ us) legal a b (inl f) (inr n) e = absurd (let t : has_version u.id (versions_in us) ≡ true = subst (λ (i : List ℕ). has_version i (versions_in us) ≡ true) (sym e ∙ ap (λ (t : UpdateView). t.id) (sym f)) (update_version us b n) in let g = new_in us u legal.0 in cc)
+one_update (u ∷ us) legal a b (inr m) (inl g) e = absurd (let t : has_version u.id (versions_in us) ≡ true = subst (λ (i : List ℕ). has_version i (versions_in us) ≡ true) (e ∙ ap (λ (t : UpdateView). t.id) (sym g)) (update_version us a m) in let f = new_in us u legal.0 in cc)
 one_update (u ∷ us) legal a b (inr m) (inr n) e = one_update us legal.1 a b m n e
 
 -- a version comes from an update
-pub update_of : (os : List UpdateView) (w : Version) → Member w (versions_of os) → (a : UpdateView) × Member a os × (a.id ≡ w.id)
+pub update_of : (os : List UpdateView) (w : Version) → Member w (versions_in os) → (a : UpdateView) × Member a os × (a.id ≡ w.id)
 update_of [] w m = absurd m
 update_of (o ∷ os) w (inl e) = (o, inl refl, ap (λ (t : Version). t.id) e)
 update_of (o ∷ os) w (inr m) = wider (update_of os w m)

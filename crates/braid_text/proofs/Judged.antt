@@ -10,7 +10,7 @@ use Rattle.braid_change.specs.declared.change.Change.{Change}
 use Rattle.braid_change.specs.declared.change.Change.TheVariants.{Body, Patches}
 use Rattle.braid_change.specs.Splices.{first_past, spliced}
 use Rattle.braid_change.specs.Updates.{UpdateView, IsBuilt}
-use Rattle.braid_text.specs.Versions.{has_version, versions_of, text_in}
+use Rattle.braid_text.specs.Versions.{has_version, versions_in, text_in}
 use Rattle.braid_text.specs.Histories.{Follows}
 use Rattle.braid_tree.specs.Trees.{Member}
 use Rattle.braid_tree.proofs.Keys.{ids_strict, eq_true, eq_itself}
@@ -95,9 +95,9 @@ not_found v (u ∷ us) h (w, m, e) = go (is_eq (id_cmp v u.id)) refl h m (λ k n
 
 pub none_missing : (ps : List (List ℕ)) (us : List UpdateView) → first_missing ps us ≡ None → (p : List ℕ) → Member p ps → Has us p
 none_missing [] us h p m = absurd m
-none_missing (q ∷ ps) us h p m = go (has_version q (versions_of us)) refl h m (λ k n. none_missing ps us k p n)
+none_missing (q ∷ ps) us h p m = go (has_version q (versions_in us)) refl h m (λ k n. none_missing ps us k p n)
   where
-    go : (b : Bool) → has_version q (versions_of us) ≡ b → cond b (first_missing ps us) (Some q) ≡ None → Member p (q ∷ ps) → (first_missing ps us ≡ None → Member p ps → Has us p) → Has us p
+    go : (b : Bool) → has_version q (versions_in us) ≡ b → cond b (first_missing ps us) (Some q) ≡ None → Member p (q ∷ ps) → (first_missing ps us ≡ None → Member p ps → Has us p) → Has us p
     go true e h (inl f) ih = subst (Has us) f (held us q e)
     go true e h (inr n) ih = ih h n
     go false e h m ih = cc
@@ -138,7 +138,7 @@ pub follows_from : (us : List UpdateView) (u : UpdateView) → refusal_in us u �
 follows_from us u h identifier rising built = go (first_none (judge_held u (find_in u.id us)) (first parents_part range_part) h)
   where
     t : List ℕ
-    t = text_in (versions_of us) u.parents
+    t = text_in (versions_in us) u.parents
 
     parents_part : Option Accept
     parents_part = option_map UnknownParent (first_missing u.parents us)
@@ -162,7 +162,7 @@ pub judged_well : (us : List UpdateView) (u : UpdateView) → ((w : UpdateView) 
 judged_well us u one next = go (find_in u.id us) refl
   where
     t : List ℕ
-    t = text_in (versions_of us) u.parents
+    t = text_in (versions_in us) u.parents
 
     rest : Option Accept
     rest = first (option_map UnknownParent (first_missing u.parents us)) (option_map (λ (n : ℕ). OutOfRange n (length t)) (first_past t u.change))

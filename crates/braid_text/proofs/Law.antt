@@ -4,7 +4,7 @@ use Rattle.braid_tree.specs.Keys.{Key, key_cmp}
 use Rattle.braid_tree.specs.Nodes.{Node, IsReading}
 use Rattle.braid_change.specs.Splices.{spliced}
 use Rattle.braid_change.specs.Updates.{UpdateView}
-use Rattle.braid_text.specs.Versions.{Version, has_version, ancestors_in, greatest_level, document_in, sees, seen_in, versions_of, text_in, version_of}
+use Rattle.braid_text.specs.Versions.{Version, has_version, ancestors_in, greatest_level, document_in, sees, seen_in, versions_in, text_in, version_in}
 use Rattle.braid_rebase.specs.Additions.{AreUnder, chars_of, seen_after}
 use Rattle.braid_text.specs.Histories.{Follows, IsLegalLog, graph_of}
 use Rattle.braid_tree.specs.Trees.{Member}
@@ -17,11 +17,11 @@ use Rattle.braid_text.proofs.Ties.{levels_log}
 use Rattle.braid_graph.specs.Levels.{level_in}
 
 -- the newest version of a legal log reads as the splice of what its parents read
-pub law_newest : (us : List UpdateView) (u : UpdateView) → IsLegalLog us → Follows us u → spliced (text_in (versions_of us) u.parents) u.change ≡ Some (text_in (versions_of (u ∷ us)) (u.id ∷ []))
+pub law_newest : (us : List UpdateView) (u : UpdateView) → IsLegalLog us → Follows us u → spliced (text_in (versions_in us) u.parents) u.change ≡ Some (text_in (versions_in (u ∷ us)) (u.id ∷ []))
 law_newest us u legal follows = splice_cut S u.change follows.fits ∙ ap Some (sym (ap chars_of (seen_own us u legal follows) ∙ text_after level u.id S u.change read (distinct_seen us u legal follows) under follows.built.shaped))
   where
     vs : List Version
-    vs = versions_of us
+    vs = versions_in us
 
     whole : IsWhole vs
     whole = whole_legal us legal
@@ -53,39 +53,39 @@ module _ (us : List UpdateView) (legal : IsLegalLog us) (u : UpdateView) (m : Me
   longer a b (inl x) y e = one_update us legal a b (subst (λ (t : UpdateView). Member t us) x m) y e
   longer a b (inr x) y e = older a b x y e
 
-  held_there : AllHeld (versions_of us) u.parents
-  held_there i k = lift (version_member i (versions_of s.older) (parents_in s.older u follows_older i k))
+  held_there : AllHeld (versions_in us) u.parents
+  held_there i k = lift (version_member i (versions_in s.older) (parents_in s.older u follows_older i k))
     where
-      lift : (w : Version) × Member w (versions_of s.older) × (w.id ≡ i) → has_version i (versions_of us) ≡ true
-      lift (w, n, e) = subst (λ (j : List ℕ). has_version j (versions_of us) ≡ true) e (held_update (update_of s.older w n))
+      lift : (w : Version) × Member w (versions_in s.older) × (w.id ≡ i) → has_version i (versions_in us) ≡ true
+      lift (w, n, e) = subst (λ (j : List ℕ). has_version j (versions_in us) ≡ true) e (held_update (update_of s.older w n))
         where
-          held_update : (a : UpdateView) × Member a s.older × (a.id ≡ w.id) → has_version w.id (versions_of us) ≡ true
-          held_update (a, k, f) = subst (λ (j : List ℕ). has_version j (versions_of us) ≡ true) f (update_version us a (s.part a k))
+          held_update : (a : UpdateView) × Member a s.older × (a.id ≡ w.id) → has_version w.id (versions_in us) ≡ true
+          held_update (a, k, f) = subst (λ (j : List ℕ). has_version j (versions_in us) ≡ true) f (update_version us a (s.part a k))
 
-  parents_seen : seen_in (versions_of s.older) u.parents ≡ seen_in (versions_of us) u.parents
+  parents_seen : seen_in (versions_in s.older) u.parents ≡ seen_in (versions_in us) u.parents
   parents_seen = same_read s.older us s.legal legal older u.parents (parents_in s.older u follows_older) held_there
 
-  own_held : (os : List UpdateView) → has_version u.id (versions_of os) ≡ true → AllHeld (versions_of os) (u.id ∷ [])
-  own_held os h i (inl e) = subst (λ (j : List ℕ). has_version j (versions_of os) ≡ true) e h
+  own_held : (os : List UpdateView) → has_version u.id (versions_in os) ≡ true → AllHeld (versions_in os) (u.id ∷ [])
+  own_held os h i (inl e) = subst (λ (j : List ℕ). has_version j (versions_in os) ≡ true) e h
   own_held os h i (inr n) = absurd n
 
-  own_there : seen_in (versions_of (u ∷ s.older)) (u.id ∷ []) ≡ seen_in (versions_of us) (u.id ∷ [])
+  own_there : seen_in (versions_in (u ∷ s.older)) (u.id ∷ []) ≡ seen_in (versions_in us) (u.id ∷ [])
   own_there = same_read (u ∷ s.older) us (follows_older, s.legal) legal longer (u.id ∷ []) (own_held (u ∷ s.older) (update_version (u ∷ s.older) u (inl refl))) (own_held us (update_version us u m))
 
-  read_there : spliced (text_in (versions_of us) u.parents) u.change ≡ Some (text_in (versions_of us) (u.id ∷ []))
+  read_there : spliced (text_in (versions_in us) u.parents) u.change ≡ Some (text_in (versions_in us) (u.id ∷ []))
   read_there = ap (λ S. spliced (chars_of S) u.change) (sym parents_seen) ∙ law_newest s.older u s.legal follows_older ∙ ap (λ S. Some (chars_of S)) own_there
 
-  level_there : 1 + greatest_level (versions_of s.older) u.parents ≡ level_in (graph_of us) u.id
-  level_there = ap (λ (t : UpdateView). 1 + greatest_level (versions_of s.older) t.parents) (sym is) ∙ levels_log us legal (version_of s.update (versions_of s.older)) s.versioned ∙ ap (λ (t : UpdateView). level_in (graph_of us) t.id) is
+  level_there : 1 + greatest_level (versions_in s.older) u.parents ≡ level_in (graph_of us) u.id
+  level_there = ap (λ (t : UpdateView). 1 + greatest_level (versions_in s.older) t.parents) (sym is) ∙ levels_log us legal (version_in s.update (versions_in s.older)) s.versioned ∙ ap (λ (t : UpdateView). level_in (graph_of us) t.id) is
 
-  seen_there : seen_in (versions_of us) (u.id ∷ []) ≡ seen_after (level_in (graph_of us) u.id) u.id (seen_in (versions_of us) u.parents) u.change
+  seen_there : seen_in (versions_in us) (u.id ∷ []) ≡ seen_after (level_in (graph_of us) u.id) u.id (seen_in (versions_in us) u.parents) u.change
   seen_there = sym own_there ∙ seen_own s.older u s.legal follows_older
-      ∙ ap (λ (n : ℕ). seen_after n u.id (seen_in (versions_of s.older) u.parents) u.change) level_there ∙ ap (λ S. seen_after (level_in (graph_of us) u.id) u.id S u.change) parents_seen
+      ∙ ap (λ (n : ℕ). seen_after n u.id (seen_in (versions_in s.older) u.parents) u.change) level_there ∙ ap (λ S. seen_after (level_in (graph_of us) u.id) u.id S u.change) parents_seen
 
 -- every version of a legal log reads as the splice of what its parents read
-pub law_any : (us : List UpdateView) → IsLegalLog us → (u : UpdateView) → Member u us → spliced (text_in (versions_of us) u.parents) u.change ≡ Some (text_in (versions_of us) (u.id ∷ []))
+pub law_any : (us : List UpdateView) → IsLegalLog us → (u : UpdateView) → Member u us → spliced (text_in (versions_in us) u.parents) u.change ≡ Some (text_in (versions_in us) (u.id ∷ []))
 law_any us legal u m = read_there us legal u m (source u.id us legal (update_version us u m))
 
 -- and sees what its parents see with what it adds
-pub seen_any : (us : List UpdateView) → IsLegalLog us → (u : UpdateView) → Member u us → seen_in (versions_of us) (u.id ∷ []) ≡ seen_after (level_in (graph_of us) u.id) u.id (seen_in (versions_of us) u.parents) u.change
+pub seen_any : (us : List UpdateView) → IsLegalLog us → (u : UpdateView) → Member u us → seen_in (versions_in us) (u.id ∷ []) ≡ seen_after (level_in (graph_of us) u.id) u.id (seen_in (versions_in us) u.parents) u.change
 seen_any us legal u m = seen_there us legal u m (source u.id us legal (update_version us u m))

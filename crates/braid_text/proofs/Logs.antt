@@ -3,7 +3,7 @@ use Rattle.std.proofs.Common.{◌≡◌, List, [], ◌∷◌, ◌++◌, Bool, tr
 use Rattle.braid_tree.specs.Keys.{Key}
 use Rattle.braid_tree.specs.Nodes.{Node}
 use Rattle.braid_change.specs.Updates.{UpdateView}
-use Rattle.braid_text.specs.Versions.{Version, has_version, seen_in, versions_of, version_of}
+use Rattle.braid_text.specs.Versions.{Version, has_version, seen_in, versions_in, version_in}
 use Rattle.braid_text.specs.Histories.{Follows, IsLegalLog, graph_of}
 use Rattle.braid_tree.specs.Trees.{Member}
 use Rattle.braid_text.proofs.Held.{version_member, update_version, one_update, update_of, holds_version, new_in, parents_in, version_holds}
@@ -15,29 +15,29 @@ use Rattle.braid_rebase.specs.Additions.{chars_of}
 use Rattle.braid_graph.specs.Entries.{Holds}
 
 -- an update's version has its parents
-pub version_at : (us : List UpdateView) (u : UpdateView) → Member u us → (x : Version) × Member x (versions_of us) × (x.id ≡ u.id) × (x.parents ≡ u.parents)
+pub version_at : (us : List UpdateView) (u : UpdateView) → Member u us → (x : Version) × Member x (versions_in us) × (x.id ≡ u.id) × (x.parents ≡ u.parents)
 version_at [] u m = absurd m
-version_at (w ∷ us) u (inl e) = (version_of w (versions_of us), inl refl, ap (λ (t : UpdateView). t.id) e, ap (λ (t : UpdateView). t.parents) e)
+version_at (w ∷ us) u (inl e) = (version_in w (versions_in us), inl refl, ap (λ (t : UpdateView). t.id) e, ap (λ (t : UpdateView). t.parents) e)
 version_at (w ∷ us) u (inr m) = wider (version_at us u m)
   where
-    wider : (x : Version) × Member x (versions_of us) × (x.id ≡ u.id) × (x.parents ≡ u.parents) → (x : Version) × Member x (versions_of (w ∷ us)) × (x.id ≡ u.id) × (x.parents ≡ u.parents)
+    wider : (x : Version) × Member x (versions_in us) × (x.id ≡ u.id) × (x.parents ≡ u.parents) → (x : Version) × Member x (versions_in (w ∷ us)) × (x.id ≡ u.id) × (x.parents ≡ u.parents)
     wider (x, n, f, g) = (x, inr n, f, g)
 
 -- an update of the list has the identifier
 abbrev pub Has : List UpdateView → List ℕ → Type 0
 Has us v = (u : UpdateView) × Member u us × (u.id ≡ v)
 
-pub held : (us : List UpdateView) (v : List ℕ) → has_version v (versions_of us) ≡ true → Has us v
-held us v h = go (version_member v (versions_of us) h)
+pub held : (us : List UpdateView) (v : List ℕ) → has_version v (versions_in us) ≡ true → Has us v
+held us v h = go (version_member v (versions_in us) h)
   where
-    go : (w : Version) × Member w (versions_of us) × (w.id ≡ v) → Has us v
+    go : (w : Version) × Member w (versions_in us) × (w.id ≡ v) → Has us v
     go (w, m, e) = by (update_of us w m)
       where
         by : (a : UpdateView) × Member a us × (a.id ≡ w.id) → Has us v
         by (a, n, f) = (a, n, f ∙ e)
 
-pub has : (us : List UpdateView) (v : List ℕ) → Has us v → has_version v (versions_of us) ≡ true
-has us v (u, m, e) = subst (λ (i : List ℕ). has_version i (versions_of us) ≡ true) e (update_version us u m)
+pub has : (us : List UpdateView) (v : List ℕ) → Has us v → has_version v (versions_in us) ≡ true
+has us v (u, m, e) = subst (λ (i : List ℕ). has_version i (versions_in us) ≡ true) e (update_version us u m)
 
 -- the same as the graph says it
 pub has_holds : (us : List UpdateView) (v : List ℕ) → Has us v → Holds (graph_of us) v
@@ -55,14 +55,14 @@ false_from true h = absurd (h refl)
 false_from false h = refl
 
 -- the identifier is held, or no update has it
-pub has_or : (us : List UpdateView) (v : List ℕ) → Has us v ⊎ (has_version v (versions_of us) ≡ false)
-has_or us v = elim (true_or (has_version v (versions_of us))) [ inl t ↦ inl (held us v t) | inr f ↦ inr f ]
+pub has_or : (us : List UpdateView) (v : List ℕ) → Has us v ⊎ (has_version v (versions_in us) ≡ false)
+has_or us v = elim (true_or (has_version v (versions_in us))) [ inl t ↦ inl (held us v t) | inr f ↦ inr f ]
 
-pub not_has : (us : List UpdateView) (v : List ℕ) → has_version v (versions_of us) ≡ false → Has us v → ⊥
+pub not_has : (us : List UpdateView) (v : List ℕ) → has_version v (versions_in us) ≡ false → Has us v → ⊥
 not_has us v f h = let t = has us v h in cc
 
-pub not_held : (us : List UpdateView) (v : List ℕ) → (Has us v → ⊥) → has_version v (versions_of us) ≡ false
-not_held us v h = false_from (has_version v (versions_of us)) (λ t. h (held us v t))
+pub not_held : (us : List UpdateView) (v : List ℕ) → (Has us v → ⊥) → has_version v (versions_in us) ≡ false
+not_held us v h = false_from (has_version v (versions_in us)) (λ t. h (held us v t))
 
 abbrev pub IsPartOf : List UpdateView → List UpdateView → Type 0
 IsPartOf us ks = (u : UpdateView) → Member u us → Member u ks
@@ -74,14 +74,14 @@ has_part us ks part v (u, m, e) = (u, part u m, e)
 pub parents_held : (us : List UpdateView) → IsLegalLog us → (u : UpdateView) → Member u us → (p : List ℕ) → Member p u.parents → Has us p
 parents_held us legal u m p n = go (version_at us u m)
   where
-    go : (x : Version) × Member x (versions_of us) × (x.id ≡ u.id) × (x.parents ≡ u.parents) → Has us p
-    go (x, k, e, f) = held us p (held_parents (versions_of us) (whole_legal us legal).ordered x k p (subst (Member p) (sym f) n))
+    go : (x : Version) × Member x (versions_in us) × (x.id ≡ u.id) × (x.parents ≡ u.parents) → Has us p
+    go (x, k, e, f) = held us p (held_parents (versions_in us) (whole_legal us legal).ordered x k p (subst (Member p) (sym f) n))
 
 pub follows_held : (us : List UpdateView) (u : UpdateView) → Follows us u → (p : List ℕ) → Member p u.parents → Has us p
 follows_held us u f p m = held us p (parents_in us u f p m)
 
 -- an update that may follow one legal log may follow another that has its parents, lacks its identifier and differs from the first under none
-pub follows_there : (hs ks : List UpdateView) (u : UpdateView) → IsLegalLog hs → IsLegalLog ks → Follows hs u → Compatible hs ks → ((p : List ℕ) → Member p u.parents → Has ks p) → has_version u.id (versions_of ks) ≡ false → Follows ks u
+pub follows_there : (hs ks : List UpdateView) (u : UpdateView) → IsLegalLog hs → IsLegalLog ks → Follows hs u → Compatible hs ks → ((p : List ℕ) → Member p u.parents → Has ks p) → has_version u.id (versions_in ks) ≡ false → Follows ks u
 follows_there hs ks u lh lk f compatible there new = record {
   new = λ h. (let t = holds_version ks u.id h in cc);
   named = f.named;
@@ -91,7 +91,7 @@ follows_there hs ks u lh lk f compatible there new = record {
   fits = subst (λ (S : List (Node Key)). IsSome (spliced (chars_of S) u.change)) same f.fits;
 }
   where
-    same : seen_in (versions_of hs) u.parents ≡ seen_in (versions_of ks) u.parents
+    same : seen_in (versions_in hs) u.parents ≡ seen_in (versions_in ks) u.parents
     same = same_read hs ks lh lk compatible u.parents (parents_in hs u f) (λ p m. has ks p (there p m))
 
 pub compatible_parts : (us ks hs : List UpdateView) → IsLegalLog hs → IsPartOf us hs → IsPartOf ks hs → Compatible us ks

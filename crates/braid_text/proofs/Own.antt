@@ -6,7 +6,7 @@ use Rattle.braid_tree.specs.Nodes.{Node, path_of, IsReading, with_nodes, run}
 use Rattle.braid_change.specs.declared.patch.Patch.{Patch}
 use Rattle.braid_change.specs.Splices.{ranges}
 use Rattle.braid_change.specs.Updates.{UpdateView}
-use Rattle.braid_text.specs.Versions.{Version, has_version, deletes, ancestors_in, greatest_level, document_in, sees, seen_in, version_of, versions_of, text_in}
+use Rattle.braid_text.specs.Versions.{Version, has_version, deletes, ancestors_in, greatest_level, document_in, sees, seen_in, version_in, versions_in, text_in}
 use Rattle.braid_graph.specs.Entries.{has_id}
 use Rattle.braid_rebase.specs.Additions.{has_key, char_of, origin_at, nodes_at, AreUnder}
 use Rattle.braid_text.specs.Histories.{Follows, IsLegalLog}
@@ -71,19 +71,19 @@ known_node vs whole z m = go (whole.placed z m)
     go (v, n, t) = subst (λ (i : List ℕ). has_version i vs ≡ true) (sym (whole.own v n z t).0) (member_version v vs n)
 
 -- the keys that a legal log deletes are known
-deleted_known : (us : List UpdateView) → IsLegalLog us → (w : Version) → Member w (versions_of us) → (k : Key) → Member k w.deleted → has_version k.id (versions_of us) ≡ true
+deleted_known : (us : List UpdateView) → IsLegalLog us → (w : Version) → Member w (versions_in us) → (k : Key) → Member k w.deleted → has_version k.id (versions_in us) ≡ true
 deleted_known [] legal w m k n = absurd m
-deleted_known (u ∷ us) legal w (inr m) k n = has_version_more k.id (version_of u (versions_of us)) (versions_of us) (deleted_known us legal.1 w m k n)
-deleted_known (u ∷ us) legal w (inl e) k n = has_version_more k.id (version_of u (versions_of us)) (versions_of us) (go (deleted_in rs S k (subst (λ (t : Version). Member k t.deleted) (sym e) n)))
+deleted_known (u ∷ us) legal w (inr m) k n = has_version_more k.id (version_in u (versions_in us)) (versions_in us) (deleted_known us legal.1 w m k n)
+deleted_known (u ∷ us) legal w (inl e) k n = has_version_more k.id (version_in u (versions_in us)) (versions_in us) (go (deleted_in rs S k (subst (λ (t : Version). Member k t.deleted) (sym e) n)))
   where
     S : List (Node Key)
-    S = seen_in (versions_of us) u.parents
+    S = seen_in (versions_in us) u.parents
 
     rs : List Patch
     rs = unwrap_or (ranges (map char_of S) u.change) []
 
-    go : (y : Node Key) × Member y S × (y.key ≡ k) → has_version k.id (versions_of us) ≡ true
-    go (y, m, f) = subst (λ (j : Key). has_version j.id (versions_of us) ≡ true) f (known_node (versions_of us) (whole_legal us legal.1) y (seen_member (versions_of us) (whole_legal us legal.1) u.parents y m).0)
+    go : (y : Node Key) × Member y S × (y.key ≡ k) → has_version k.id (versions_in us) ≡ true
+    go (y, m, f) = subst (λ (j : Key). has_version j.id (versions_in us) ≡ true) f (known_node (versions_in us) (whole_legal us legal.1) y (seen_member (versions_in us) (whole_legal us legal.1) u.parents y m).0)
 
 false_or : (a b : Bool) → (a || b) ≡ false → (a ≡ false) × (b ≡ false)
 false_or true b h = cc
@@ -108,28 +108,28 @@ reading_with_nodes level id S (r ∷ rs) n d text_in new under =
 -- what an update sees of its own, in a legal log that ends in it
 module _ (us : List UpdateView) (u : UpdateView) (legal : IsLegalLog us) (follows : Follows us u) where
   abbrev vs : List Version
-  vs = versions_of us
+  vs = versions_in us
 
   abbrev v : Version
-  v = version_of u (versions_of us)
+  v = version_in u (versions_in us)
 
   abbrev A : List Version
-  A = ancestors_in (versions_of us) u.parents
+  A = ancestors_in (versions_in us) u.parents
 
   abbrev S : List (Node Key)
-  S = seen_in (versions_of us) u.parents
+  S = seen_in (versions_in us) u.parents
 
   abbrev level : ℕ
-  level = 1 + greatest_level (versions_of us) u.parents
+  level = 1 + greatest_level (versions_in us) u.parents
 
   abbrev rs : List Patch
-  rs = unwrap_or (ranges (map char_of (seen_in (versions_of us) u.parents)) u.change) []
+  rs = unwrap_or (ranges (map char_of (seen_in (versions_in us) u.parents)) u.change) []
 
   abbrev keep : Node Key → Bool
-  keep z = not (has_key z.key (version_of u (versions_of us)).deleted)
+  keep z = not (has_key z.key (version_in u (versions_in us)).deleted)
 
   abbrev W : List (Node Key)
-  W = with_nodes key_cmp (version_of u (versions_of us)).nodes (seen_in (versions_of us) u.parents)
+  W = with_nodes key_cmp (version_in u (versions_in us)).nodes (seen_in (versions_in us) u.parents)
 
   pub seen_own : seen_in (v ∷ vs) (u.id ∷ []) ≡ filter keep W
   seen_own = ap (λ B. filter (sees B) (document_in (v ∷ vs))) (own_ancestry v vs (new_in us u follows))
@@ -214,12 +214,12 @@ module _ (us : List UpdateView) (u : UpdateView) (legal : IsLegalLog us) (follow
                   (ap not (or_false (has_key z.key v.deleted) (deletes z.key A) (not_true (has_key z.key v.deleted) k) del)))
 
   pub distinct_seen : AreDistinct S
-  distinct_seen = distinct_filter (document_in (versions_of us)) (whole_legal us legal).tree.distinct
+  distinct_seen = distinct_filter (document_in (versions_in us)) (whole_legal us legal).tree.distinct
     where
-      distinct_filter : (d : List (Node Key)) → AreDistinct d → AreDistinct (filter (sees (ancestors_in (versions_of us) u.parents)) d)
+      distinct_filter : (d : List (Node Key)) → AreDistinct d → AreDistinct (filter (sees (ancestors_in (versions_in us) u.parents)) d)
       distinct_filter [] h = tt
-      distinct_filter (x ∷ d) h = go (sees (ancestors_in (versions_of us) u.parents) x) (distinct_filter d h.1)
+      distinct_filter (x ∷ d) h = go (sees (ancestors_in (versions_in us) u.parents) x) (distinct_filter d h.1)
         where
-          go : (b : Bool) → AreDistinct (filter (sees (ancestors_in (versions_of us) u.parents)) d) → AreDistinct (cond b (x ∷ filter (sees (ancestors_in (versions_of us) u.parents)) d) (filter (sees (ancestors_in (versions_of us) u.parents)) d))
-          go true ih = (all_from_members (λ (y : Node Key). (y.key ≡ x.key) → ⊥) (filter (sees (ancestors_in (versions_of us) u.parents)) d) (λ y m. all_member (λ (y : Node Key). (y.key ≡ x.key) → ⊥) y d h.0 (member_filter (sees (ancestors_in (versions_of us) u.parents)) y d m).0), ih)
+          go : (b : Bool) → AreDistinct (filter (sees (ancestors_in (versions_in us) u.parents)) d) → AreDistinct (cond b (x ∷ filter (sees (ancestors_in (versions_in us) u.parents)) d) (filter (sees (ancestors_in (versions_in us) u.parents)) d))
+          go true ih = (all_from_members (λ (y : Node Key). (y.key ≡ x.key) → ⊥) (filter (sees (ancestors_in (versions_in us) u.parents)) d) (λ y m. all_member (λ (y : Node Key). (y.key ≡ x.key) → ⊥) y d h.0 (member_filter (sees (ancestors_in (versions_in us) u.parents)) y d m).0), ih)
           go false ih = ih

@@ -2,7 +2,7 @@
 use Rattle.std.proofs.Common.{◌≡◌, ℕ, List, [], ◌∷◌, ◌++◌, Bool, true, false, cond, refl, ap, subst, ◌∙◌, inl, inr, filter, take, Some, suc, zero}
 use Rattle.std.specs.List.{slice_get}
 use Rattle.braid_change.specs.Updates.{UpdateView}
-use Rattle.braid_text.specs.Versions.{Version, ancestors_in, version_of, versions_of}
+use Rattle.braid_text.specs.Versions.{Version, ancestors_in, version_in, versions_in}
 use Rattle.braid_graph.specs.Entries.{has_id}
 use Rattle.braid_text.specs.Histories.{IsLegalLog}
 use Rattle.braid_tree.specs.Trees.{Member}
@@ -12,12 +12,12 @@ use Rattle.braid_text.proofs.Logs.{Has, parents_held}
 
 -- the ancestry of a frontier that a legal log holds is in the log, where it agrees with the history
 pub ancestors_held : (cs : List UpdateView) → IsLegalLog cs → (us : List UpdateView) (F : List (List ℕ)) → ((u : UpdateView) → Member u us → Has cs u.id → Member u cs) → ((v : List ℕ) → Member v F → Has cs v)
-    → (w : Version) → Member w (ancestors_in (versions_of us) F) → Has cs w.id
+    → (w : Version) → Member w (ancestors_in (versions_in us) F) → Has cs w.id
 ancestors_held cs legal [] F agree base w m = absurd m
 ancestors_held cs legal (u ∷ us) F agree base w m = go (has_id u.id F) refl m (λ G. ancestors_held cs legal us G (λ x n. agree x (inr n)))
   where
-    go : (b : Bool) → has_id u.id F ≡ b → Member w (cond b (version_of u (versions_of us) ∷ ancestors_in (versions_of us) (u.parents ++ F)) (ancestors_in (versions_of us) F))
-        → ((G : List (List ℕ)) → ((v : List ℕ) → Member v G → Has cs v) → (w : Version) → Member w (ancestors_in (versions_of us) G) → Has cs w.id) → Has cs w.id
+    go : (b : Bool) → has_id u.id F ≡ b → Member w (cond b (version_in u (versions_in us) ∷ ancestors_in (versions_in us) (u.parents ++ F)) (ancestors_in (versions_in us) F))
+        → ((G : List (List ℕ)) → ((v : List ℕ) → Member v G → Has cs v) → (w : Version) → Member w (ancestors_in (versions_in us) G) → Has cs w.id) → Has cs w.id
     go true e (inl f) ih = subst (λ (t : Version). Has cs t.id) f (base u.id (id_member u.id F e))
     go true e (inr n) ih = ih (u.parents ++ F) (λ v k. elim (member_append_cases v u.parents F k) [
       | inl a ↦ parents_held cs legal u (agree u (inl refl) (base u.id (id_member u.id F e))) v a

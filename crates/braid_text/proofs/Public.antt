@@ -1,7 +1,7 @@
 -- The laws over histories whose oldest update stands first.
-use Rattle.std.proofs.Common.{◌≡◌, ◌↔◌, ℕ, ◌+◌, List, [], ◌∷◌, ◌++◌, Bool, true, false, not, cond, filter, length, reverse, Some, IsSome, sym, ap, subst, ◌∙◌, inl, inr, ◌≢◌}
+use Rattle.std.proofs.Common.{◌≡◌, ◌↔◌, ℕ, ◌+◌, ◌-◌, List, [], ◌∷◌, ◌++◌, Bool, true, false, not, cond, filter, length, reverse, Some, IsSome, sym, ap, subst, ◌∙◌, inl, inr, ◌≢◌}
 use Rattle.std.specs.List.{Contains}
-use Rattle.std.proofs.lemmas.List.{reverse-append}
+use Rattle.std.proofs.lemmas.List.{reverse-append, length-reverse}
 use Rattle.std.proofs.lemmas.List.Elements.{filter-append}
 use Rattle.braid_ids.specs.Identifiers.{IsIdentifier}
 use Rattle.braid_ids.specs.Frontiers.{IsRising}
@@ -30,9 +30,9 @@ use Rattle.braid_rebase.proofs.Members.{contains_member, from_log, in_log, membe
 use Rattle.braid_rebase.specs.Additions.{chars_of, seen_after, ranges_at}
 use Rattle.braid_text.proofs.Whole.{ancestry_member, not_true}
 use Rattle.braid_text.proofs.Ties.{ancestor_version, frontier_whole, greatest_levels, held_at, holds_log, key_levels, log_holds, version_ancestor, levels, log_graph}
-use Rattle.braid_text.specs.Versions.{Version, ancestors_in, has_version, versions_of, document_in}
+use Rattle.braid_text.specs.Versions.{Version, ancestors_in, has_version, versions_in, document_in}
 use Rattle.braid_tree.specs.Trees.{Member}
-use Rattle.braid_text.specs.Answers.{HasRoom, IsAnswer, answer_to, needs_of}
+use Rattle.braid_text.specs.Answers.{HasRoom, IsAnswer, answer_to, needs_of, room_of}
 use Rattle.braid_text.proofs.Logs.{Has, false_from, has_holds, holds_has}
 use Rattle.braid_text.proofs.Same.{Compatible, same_read}
 use Rattle.braid_text.specs.Histories.{AreCompatible, IsLegal, IsLegalLog, MayFollow, SameGraph, added_by, ancestors_at, deletions_by, deletions_in, deletions_of, document_of, elements_by, elements_in, elements_of, graph_of, seen_at, text_at, versions_at}
@@ -58,7 +58,7 @@ may_follow H u = (
 
 -- what one more update adds
 pub versions_more : (H : List UpdateView) (u : UpdateView) → versions_at (H ++ u ∷ []) ≡ added_by H u ∷ versions_at H
-versions_more H u = ap versions_of (log_push H u)
+versions_more H u = ap versions_in (log_push H u)
 
 pub document_more : (H : List UpdateView) (u : UpdateView) → document_of (H ++ u ∷ []) ≡ with_nodes key_cmp (added_by H u).nodes (document_of H)
 document_more H u = ap document_in (versions_more H u)
@@ -185,3 +185,17 @@ sent_more H F u legal held new = ap (λ (f : UpdateView → Bool). filter f (H +
 -- no other answer fits but want of memory
 pub only_answer : (room : Room) (H : List UpdateView) (u : UpdateView) → IsLegal H → IsRising u.parents → (a : Accept) → IsAnswer room H u a → a ≢ Memory → a ≡ answer_to room H u
 only_answer room H u legal rising a is other = elim (one_answer room H u legal rising a is) [ inl e ↦ absurd (other e) | inr e ↦ e ]
+
+-- to an update that is held only Known fits
+pub held_known : (room : Room) (H : List UpdateView) (u : UpdateView) → IsLegal H → IsRising u.parents → Contains H u → (a : Accept) → IsAnswer room H u a → a ≡ Known
+held_known room H u legal rising c a is = elim (one_answer room H u legal rising a is) [
+  | inl e ↦ absurd (memory (subst (IsAnswer room H u) e is) c)
+  | inr e ↦ e ∙ elim (one_answer room H u legal rising Known c) [ inl f ↦ absurd (memory (subst (IsAnswer room H u) f c) c) | inr f ↦ sym f ]
+]
+  where
+    memory : IsAnswer room H u Memory → Contains H u → ⊥
+    memory out = out
+
+-- what limits leave of versions beside a history
+pub room_versions : (limits : Room) (H : List UpdateView) → (room_of limits H).versions ≡ limits.versions - length H
+room_versions limits H = ap (λ (n : ℕ). limits.versions - n) (length-reverse H)

@@ -10,7 +10,7 @@ use Rattle.braid_change.specs.Changes.{AreScalars, content_len}
 use Rattle.braid_change.specs.Updates.{UpdateView, IsBuilt}
 use Rattle.braid_text.specs.Histories.{Follows, IsLegal}
 use Rattle.braid_text.specs.Answers.{refusal_in}
-use Rattle.braid_text.specs.Worked.{x_1, p_1, q_1, r_1, p_deletes, a_1, b_1, m_1}
+use Rattle.braid_text.specs.Worked.{x_1, p_1, q_1, r_1, p_deletes, a_1, b_1, m_1, x_hello, y_1}
 use Rattle.braid_text.proofs.Judged.{follows_from}
 
 printable : (bytes : List ℕ) → AllByRecursion IsPrintable bytes → (k : ℕ) → k < length bytes → IsPrintable (slice_index bytes k)
@@ -63,21 +63,29 @@ unfolding lib.Utf8.encode
 follows_r us e = follows_from us r_1 e (one_letter 114 (omega arith) (omega arith)) (rises_two (codes "p-1") (codes "q-1") refl)
     (record { few_parents = omega arith; shaped = record { few = omega arith; listed = (omega arith, omega arith, tt); short = short_as r_1.change 1 refl (omega arith); numbered = (omega arith, tt) }; scalar = (refl, tt) })
 
-follows_deletes : Follows (x_1 ∷ []) p_deletes
-follows_deletes = follows_from (x_1 ∷ []) p_deletes refl (one_letter 112 (omega arith) (omega arith)) (rises_one (codes "x-1"))
+follows_deletes : (us : List UpdateView) → refusal_in us p_deletes ≡ None → Follows us p_deletes
+follows_deletes us e = follows_from us p_deletes e (one_letter 112 (omega arith) (omega arith)) (rises_one (codes "x-1"))
     (record { few_parents = omega arith; shaped = record { few = omega arith; listed = (omega arith, omega arith, tt); short = short_as p_deletes.change 0 refl (omega arith); numbered = (omega arith, tt) }; scalar = (refl, tt) })
 
-follows_a : Follows [] a_1
+follows_a : (us : List UpdateView) → refusal_in us a_1 ≡ None → Follows us a_1
 unfolding lib.Utf8.encode
-follows_a = follows_from [] a_1 refl (one_letter 97 (omega arith) (omega arith)) rises_none (body_built [] (codes "A") (omega arith) (short_as (Body (codes "A")) 1 refl (omega arith)) refl)
+follows_a us e = follows_from us a_1 e (one_letter 97 (omega arith) (omega arith)) rises_none (body_built [] (codes "A") (omega arith) (short_as (Body (codes "A")) 1 refl (omega arith)) refl)
 
-follows_b : Follows (a_1 ∷ []) b_1
+follows_b : (us : List UpdateView) → refusal_in us b_1 ≡ None → Follows us b_1
 unfolding lib.Utf8.encode
-follows_b = follows_from (a_1 ∷ []) b_1 refl (one_letter 98 (omega arith) (omega arith)) rises_none (body_built [] (codes "B") (omega arith) (short_as (Body (codes "B")) 1 refl (omega arith)) refl)
+follows_b us e = follows_from us b_1 e (one_letter 98 (omega arith) (omega arith)) rises_none (body_built [] (codes "B") (omega arith) (short_as (Body (codes "B")) 1 refl (omega arith)) refl)
 
-follows_m : Follows (b_1 ∷ a_1 ∷ []) m_1
-follows_m = follows_from (b_1 ∷ a_1 ∷ []) m_1 refl (one_letter 109 (omega arith) (omega arith)) (rises_two (codes "a-1") (codes "b-1") refl)
+follows_m : (us : List UpdateView) → refusal_in us m_1 ≡ None → Follows us m_1
+follows_m us e = follows_from us m_1 e (one_letter 109 (omega arith) (omega arith)) (rises_two (codes "a-1") (codes "b-1") refl)
     (record { few_parents = omega arith; shaped = record { few = omega arith; listed = tt; short = short_as m_1.change 0 refl (omega arith); numbered = tt }; scalar = tt })
+
+follows_hello : Follows [] x_hello
+unfolding lib.Utf8.encode
+follows_hello = follows_from [] x_hello refl (one_letter 120 (omega arith) (omega arith)) rises_none (body_built [] (codes "hello") (omega arith) (short_as (Body (codes "hello")) 5 refl (omega arith)) refl)
+
+follows_y : Follows (x_hello ∷ []) y_1
+unfolding lib.Utf8.encode
+follows_y = follows_from (x_hello ∷ []) y_1 refl (one_letter 121 (omega arith) (omega arith)) (rises_one (codes "x-1")) (body_built (codes "x-1" ∷ []) (codes "hello you") (omega arith) (short_as (Body (codes "hello you")) 9 refl (omega arith)) refl)
 
 pub siblings : IsLegal (x_1 ∷ p_1 ∷ q_1 ∷ r_1 ∷ [])
 siblings = (follows_r (q_1 ∷ p_1 ∷ x_1 ∷ []) refl, (follows_q (p_1 ∷ x_1 ∷ []) refl, (follows_p (x_1 ∷ []) refl, (follows_x, tt))))
@@ -86,7 +94,16 @@ pub siblings_back : IsLegal (x_1 ∷ q_1 ∷ p_1 ∷ r_1 ∷ [])
 siblings_back = (follows_r (p_1 ∷ q_1 ∷ x_1 ∷ []) refl, (follows_p (q_1 ∷ x_1 ∷ []) refl, (follows_q (x_1 ∷ []) refl, (follows_x, tt))))
 
 pub concurrent : IsLegal (x_1 ∷ p_deletes ∷ q_1 ∷ [])
-concurrent = (follows_q (p_deletes ∷ x_1 ∷ []) refl, (follows_deletes, (follows_x, tt)))
+concurrent = (follows_q (p_deletes ∷ x_1 ∷ []) refl, (follows_deletes (x_1 ∷ []) refl, (follows_x, tt)))
+
+pub concurrent_back : IsLegal (x_1 ∷ q_1 ∷ p_deletes ∷ [])
+concurrent_back = (follows_deletes (q_1 ∷ x_1 ∷ []) refl, (follows_q (x_1 ∷ []) refl, (follows_x, tt)))
 
 pub merge : IsLegal (a_1 ∷ b_1 ∷ m_1 ∷ [])
-merge = (follows_m, (follows_b, (follows_a, tt)))
+merge = (follows_m (b_1 ∷ a_1 ∷ []) refl, (follows_b (a_1 ∷ []) refl, (follows_a [] refl, tt)))
+
+pub merge_back : IsLegal (b_1 ∷ a_1 ∷ m_1 ∷ [])
+merge_back = (follows_m (a_1 ∷ b_1 ∷ []) refl, (follows_a (b_1 ∷ []) refl, (follows_b [] refl, tt)))
+
+pub bodies : IsLegal (x_hello ∷ y_1 ∷ [])
+bodies = (follows_y, (follows_hello, tt))

@@ -4,7 +4,7 @@ use Rattle.braid_tree.specs.Keys.{Key, key_cmp, key_in}
 use Rattle.braid_tree.specs.Nodes.{Node, Before, IsReading}
 use Rattle.braid_change.specs.Splices.{ranges}
 use Rattle.braid_change.specs.Updates.{UpdateView}
-use Rattle.braid_text.specs.Versions.{Version, has_version, deletes, ancestors_in, greatest_level, document_in, sees, seen_in, version_of, versions_of}
+use Rattle.braid_text.specs.Versions.{Version, has_version, deletes, ancestors_in, greatest_level, document_in, sees, seen_in, version_in, versions_in}
 use Rattle.braid_graph.specs.Entries.{has_id}
 use Rattle.braid_rebase.specs.Additions.{has_key, char_of, nodes_at, deleted_at}
 use Rattle.braid_text.specs.Histories.{Follows, IsLegalLog}
@@ -151,7 +151,7 @@ made : UpdateView → List (Node Key) → ℕ → Version
 made u S level = let rs = unwrap_or (ranges (map char_of S) u.change) [] in
     record { id = u.id; parents = u.parents; level = level; nodes = nodes_at (key_in level u.id) S 0 rs; deleted = deleted_at S rs }
 
-pub version_agrees : (u : UpdateView) (vs cs : List Version) → seen_in vs u.parents ≡ seen_in cs u.parents → greatest_level vs u.parents ≡ greatest_level cs u.parents → version_of u vs ≡ version_of u cs
+pub version_agrees : (u : UpdateView) (vs cs : List Version) → seen_in vs u.parents ≡ seen_in cs u.parents → greatest_level vs u.parents ≡ greatest_level cs u.parents → version_in u vs ≡ version_in u cs
 unfolding made
 version_agrees u vs cs e g = ap (λ S. made u S (1 + greatest_level vs u.parents)) e ∙ ap (λ (n : ℕ). made u (seen_in cs u.parents) (1 + n)) g
 
@@ -163,16 +163,16 @@ pub record Source (i : List ℕ) (ks : List UpdateView) : Type 0 where
   pub older : List UpdateView
   pub legal : IsLegalLog older
   pub follows : Follows older update
-  pub versioned : Member (version_of update (versions_of older)) (versions_of ks)
+  pub versioned : Member (version_in update (versions_in older)) (versions_in ks)
   pub part : (t : UpdateView) → Member t older → Member t ks
 
-pub source : (i : List ℕ) (ks : List UpdateView) → IsLegalLog ks → has_version i (versions_of ks) ≡ true → Source i ks
+pub source : (i : List ℕ) (ks : List UpdateView) → IsLegalLog ks → has_version i (versions_in ks) ≡ true → Source i ks
 source i [] legal h = cc
-source i (k ∷ ks) legal h = go (version_member i (versions_of (k ∷ ks)) h) (source i ks legal.1)
+source i (k ∷ ks) legal h = go (version_member i (versions_in (k ∷ ks)) h) (source i ks legal.1)
   where
-    go : (v : Version) × Member v (versions_of (k ∷ ks)) × (v.id ≡ i) → (has_version i (versions_of ks) ≡ true → Source i ks) → Source i (k ∷ ks)
+    go : (v : Version) × Member v (versions_in (k ∷ ks)) × (v.id ≡ i) → (has_version i (versions_in ks) ≡ true → Source i ks) → Source i (k ∷ ks)
     go (v, inl e, f) ih = record { update = k; listed = inl refl; named = ap (λ (t : Version). t.id) e ∙ f; older = ks; legal = legal.1; follows = legal.0; versioned = inl refl; part = λ t m. inr m }
-    go (v, inr m, f) ih = let s : Source i ks = ih (subst (λ (t : List ℕ). has_version t (versions_of ks) ≡ true) f (member_version v (versions_of ks) m)) in
+    go (v, inr m, f) ih = let s : Source i ks = ih (subst (λ (t : List ℕ). has_version t (versions_in ks) ≡ true) f (member_version v (versions_in ks) m)) in
         record { update = s.update; listed = inr s.listed; named = s.named; older = s.older; legal = s.legal; follows = s.follows; versioned = inr s.versioned; part = λ t n. inr (s.part t n) }
 
 -- no two updates of the logs differ under one identifier
@@ -180,19 +180,19 @@ abbrev pub Compatible : List UpdateView → List UpdateView → Type 0
 Compatible us ks = (u w : UpdateView) → Member u us → Member w ks → u.id ≡ w.id → u ≡ w
 
 -- what two compatible legal logs say of a version that both have is the same
-pub same_versions : (us : List UpdateView) → IsLegalLog us → (ks : List UpdateView) → IsLegalLog ks → Compatible us ks → Agree (versions_of us) (versions_of ks)
+pub same_versions : (us : List UpdateView) → IsLegalLog us → (ks : List UpdateView) → IsLegalLog ks → Compatible us ks → Agree (versions_in us) (versions_in ks)
 same_versions [] lu ks lk compatible v m h = absurd m
 same_versions (u ∷ us) lu ks lk compatible v (inr m) h = same_versions us lu.1 ks lk (λ a b x y. compatible a b (inr x) y) v m h
-same_versions (u ∷ us) lu ks lk compatible v (inl e) h = go (source u.id ks lk (subst (λ (t : Version). has_version t.id (versions_of ks) ≡ true) (sym e) h)) (λ os lo c. same_versions us lu.1 os lo c)
+same_versions (u ∷ us) lu ks lk compatible v (inl e) h = go (source u.id ks lk (subst (λ (t : Version). has_version t.id (versions_in ks) ≡ true) (sym e) h)) (λ os lo c. same_versions us lu.1 os lo c)
   where
-    go : Source u.id ks → ((os : List UpdateView) → IsLegalLog os → Compatible us os → Agree (versions_of us) (versions_of os)) → Member v (versions_of ks)
-    go s ih = subst (λ (t : Version). Member t (versions_of ks)) (sym same ∙ e) s.versioned
+    go : Source u.id ks → ((os : List UpdateView) → IsLegalLog os → Compatible us os → Agree (versions_in us) (versions_in os)) → Member v (versions_in ks)
+    go s ih = subst (λ (t : Version). Member t (versions_in ks)) (sym same ∙ e) s.versioned
       where
         vs : List Version
-        vs = versions_of us
+        vs = versions_in us
 
         os : List Version
-        os = versions_of s.older
+        os = versions_in s.older
 
         is : u ≡ s.update
         is = compatible u s.update (inl refl) s.listed (sym s.named)
@@ -212,11 +212,11 @@ same_versions (u ∷ us) lu ks lk compatible v (inl e) h = go (source u.id ks lk
         ho : AllHeld os u.parents
         ho = subst (λ (t : UpdateView). AllHeld os t.parents) (sym is) (parents_in s.older s.update s.follows)
 
-        same : version_of u vs ≡ version_of s.update os
+        same : version_in u vs ≡ version_in s.update os
         same = version_agrees u vs os (seen_agrees vs os wu wo agree u.parents hu ho)
             (let a : greatest_level vs u.parents ≤ greatest_level os u.parents = greatest_agrees vs os agree u.parents ho in let b : greatest_level os u.parents ≤ greatest_level vs u.parents = greatest_agrees os vs (agree_back vs os wo.ordered agree) u.parents hu in omega arith)
-            ∙ ap (λ (t : UpdateView). version_of t os) is
+            ∙ ap (λ (t : UpdateView). version_in t os) is
 
 -- compatible legal logs read the same at every frontier within both
-pub same_read : (us ks : List UpdateView) → IsLegalLog us → IsLegalLog ks → Compatible us ks → (F : List (List ℕ)) → AllHeld (versions_of us) F → AllHeld (versions_of ks) F → seen_in (versions_of us) F ≡ seen_in (versions_of ks) F
-same_read us ks lu lk compatible F hu hk = seen_agrees (versions_of us) (versions_of ks) (whole_legal us lu) (whole_legal ks lk) (same_versions us lu ks lk compatible) F hu hk
+pub same_read : (us ks : List UpdateView) → IsLegalLog us → IsLegalLog ks → Compatible us ks → (F : List (List ℕ)) → AllHeld (versions_in us) F → AllHeld (versions_in ks) F → seen_in (versions_in us) F ≡ seen_in (versions_in ks) F
+same_read us ks lu lk compatible F hu hk = seen_agrees (versions_in us) (versions_in ks) (whole_legal us lu) (whole_legal ks lk) (same_versions us lu ks lk compatible) F hu hk

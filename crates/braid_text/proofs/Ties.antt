@@ -21,7 +21,7 @@ use Rattle.braid_tree.specs.Nodes.{Node}
 use Rattle.braid_tree.specs.Trees.{Member}
 use Rattle.braid_tree.proofs.Keys.{ids_strict, eq_true, eq_itself}
 use Rattle.braid_tree.proofs.Member.{member_append_left, member_append_right}
-use Rattle.braid_text.specs.Versions.{Version, has_version, ancestors_in, greatest_level, version_of, versions_of}
+use Rattle.braid_text.specs.Versions.{Version, has_version, ancestors_in, greatest_level, version_in, versions_in}
 use Rattle.braid_text.specs.Histories.{entry_of, graph_of, IsLegalLog, IsLegal, versions_at, ancestors_at, document_of}
 use Rattle.braid_rebase.proofs.Members.{contains_member, member_contains, member_map, member_from_map}
 use Rattle.braid_text.proofs.Held.{id_member, member_id, version_member, member_version, new_in, parents_in, holds_all, AllHeld}
@@ -72,12 +72,12 @@ pub legal_graph : (H : List UpdateView) → IsLegal H → IsHistoryGraph (graph_
 legal_graph H legal = subst IsHistoryGraph (ap reverse (log_graph H) ∙ reverse-reverse (graph_of H)) (log_history (reverse H) legal)
 
 -- the versions of an ancestry are those that the walk over the graph finds
-pub ancestors_ids : (us : List UpdateView) (F : List (List ℕ)) → map id_of (ancestors_in (versions_of us) F) ≡ ancestry_in (graph_of us) F
+pub ancestors_ids : (us : List UpdateView) (F : List (List ℕ)) → map id_of (ancestors_in (versions_in us) F) ≡ ancestry_in (graph_of us) F
 ancestors_ids [] F = refl
 ancestors_ids (u ∷ us) F = go (has_id u.id F) (ancestors_ids us)
   where
-    go : (b : Bool) → ((G : List (List ℕ)) → map id_of (ancestors_in (versions_of us) G) ≡ ancestry_in (graph_of us) G)
-        → map id_of (cond b (version_of u (versions_of us) ∷ ancestors_in (versions_of us) (u.parents ++ F)) (ancestors_in (versions_of us) F)) ≡ cond b (u.id ∷ ancestry_in (graph_of us) (u.parents ++ F)) (ancestry_in (graph_of us) F)
+    go : (b : Bool) → ((G : List (List ℕ)) → map id_of (ancestors_in (versions_in us) G) ≡ ancestry_in (graph_of us) G)
+        → map id_of (cond b (version_in u (versions_in us) ∷ ancestors_in (versions_in us) (u.parents ++ F)) (ancestors_in (versions_in us) F)) ≡ cond b (u.id ∷ ancestry_in (graph_of us) (u.parents ++ F)) (ancestry_in (graph_of us) F)
     go true ih = ap (λ t. u.id ∷ t) (ih (u.parents ++ F))
     go false ih = ih F
 
@@ -125,10 +125,10 @@ greatest_same vs f levels F held = omega (arith, up, down)
         go : (v : List ℕ) → Member v F → (w : Version) × Member w vs × (w.id ≡ v) → f v ≤ greatest_level vs F
         go v m (w, n, e) = let l = greatest_at vs F w n (member_id w.id F (subst (λ (t : List ℕ). Member t F) (sym e) m)) in let a = levels w n in let b : f w.id ≡ f v = ap f e in omega (arith, l, a, b)
 
-pub levels_log : (us : List UpdateView) → IsLegalLog us → (w : Version) → Member w (versions_of us) → w.level ≡ level_in (graph_of us) w.id
+pub levels_log : (us : List UpdateView) → IsLegalLog us → (w : Version) → Member w (versions_in us) → w.level ≡ level_in (graph_of us) w.id
 levels_log [] legal w m = absurd m
-levels_log (u ∷ us) legal w (inl e) = subst (λ (t : Version). t.level ≡ level_in (graph_of (u ∷ us)) t.id) e (ap (λ (n : ℕ). 1 + n) (greatest_same (versions_of us) (level_in (graph_of us)) (levels_log us legal.1) u.parents (parents_in us u legal.0)) ∙ sym (level_newest (entry_of u) (graph_of us)))
-levels_log (u ∷ us) legal w (inr m) = levels_log us legal.1 w m ∙ sym (level_older (entry_of u) (graph_of us) w.id (λ same. let t : has_version u.id (versions_of us) ≡ true = subst (λ (i : List ℕ). has_version i (versions_of us) ≡ true) (sym same) (member_version w (versions_of us) m) in let f = new_in us u legal.0 in cc))
+levels_log (u ∷ us) legal w (inl e) = subst (λ (t : Version). t.level ≡ level_in (graph_of (u ∷ us)) t.id) e (ap (λ (n : ℕ). 1 + n) (greatest_same (versions_in us) (level_in (graph_of us)) (levels_log us legal.1) u.parents (parents_in us u legal.0)) ∙ sym (level_newest (entry_of u) (graph_of us)))
+levels_log (u ∷ us) legal w (inr m) = levels_log us legal.1 w m ∙ sym (level_older (entry_of u) (graph_of us) w.id (λ same. let t : has_version u.id (versions_in us) ≡ true = subst (λ (i : List ℕ). has_version i (versions_in us) ≡ true) (sym same) (member_version w (versions_in us) m) in let f = new_in us u legal.0 in cc))
 
 pub levels : (H : List UpdateView) → IsLegal H → (w : Version) → Member w (versions_at H) → w.level ≡ level_of (graph_of H) w.id
 levels H legal w m = levels_log (reverse H) legal w m ∙ ap (λ (es : List GraphEntry). level_in es w.id) (log_graph H)
@@ -169,9 +169,9 @@ newest_free u us legal (w, inr m, n) = legal.0.new (older us legal.1 w m u.id n)
         wider x us p h = member_contains (ids_of (graph_of (x ∷ us))) p (inr (contains_member (ids_of (graph_of us)) p h))
 
 -- where each update is named or a parent, the ancestry is all
-pub ancestry_whole : (us : List UpdateView) → IsLegalLog us → (G : List (List ℕ)) → ((u : UpdateView) → Member u us → Member u.id G ⊎ IsParentIn us u.id) → ancestors_in (versions_of us) G ≡ versions_of us
+pub ancestry_whole : (us : List UpdateView) → IsLegalLog us → (G : List (List ℕ)) → ((u : UpdateView) → Member u us → Member u.id G ⊎ IsParentIn us u.id) → ancestors_in (versions_in us) G ≡ versions_in us
 ancestry_whole [] legal G all = refl
-ancestry_whole (u ∷ us) legal G all = ap (λ (b : Bool). cond b (version_of u (versions_of us) ∷ ancestors_in (versions_of us) (u.parents ++ G)) (ancestors_in (versions_of us) G)) named_first ∙ ap (λ t. version_of u (versions_of us) ∷ t) (ancestry_whole us legal.1 (u.parents ++ G) more)
+ancestry_whole (u ∷ us) legal G all = ap (λ (b : Bool). cond b (version_in u (versions_in us) ∷ ancestors_in (versions_in us) (u.parents ++ G)) (ancestors_in (versions_in us) G)) named_first ∙ ap (λ t. version_in u (versions_in us) ∷ t) (ancestry_whole us legal.1 (u.parents ++ G) more)
   where
     named_first : has_id u.id G ≡ true
     named_first = elim (all u (inl refl)) [ inl m ↦ member_id u.id G m | inr p ↦ absurd (newest_free u us legal p) ]
@@ -212,5 +212,5 @@ frontier_names us u m = go (is_head (graph_of us) u.id) refl
             by false t h ih = wider (ih h)
 
 -- all of a legal history is in the ancestry of its frontier
-pub frontier_whole : (us : List UpdateView) → IsLegalLog us → ancestors_in (versions_of us) (frontier_of (graph_of us)) ≡ versions_of us
+pub frontier_whole : (us : List UpdateView) → IsLegalLog us → ancestors_in (versions_in us) (frontier_of (graph_of us)) ≡ versions_in us
 frontier_whole us legal = ancestry_whole us legal (frontier_of (graph_of us)) (frontier_names us)

@@ -7,7 +7,7 @@ use Rattle.braid_tree.specs.Nodes.{Node, path_of, with_nodes}
 use Rattle.braid_change.specs.declared.patch.Patch.{Patch}
 use Rattle.braid_change.specs.Splices.{ranges}
 use Rattle.braid_change.specs.Updates.{UpdateView}
-use Rattle.braid_text.specs.Versions.{Version, has_version, deletes, ancestors_in, greatest_level, document_in, sees, seen_in, version_of, versions_of}
+use Rattle.braid_text.specs.Versions.{Version, has_version, deletes, ancestors_in, greatest_level, document_in, sees, seen_in, version_in, versions_in}
 use Rattle.braid_graph.specs.Entries.{has_id}
 use Rattle.braid_rebase.specs.Additions.{char_of, nodes_at, AreUnder}
 use Rattle.braid_text.specs.Histories.{Follows, IsLegalLog}
@@ -130,7 +130,7 @@ seen_under vs whole F = all_from_members (λ (y : Node Key). AllByRecursion (λ 
         climb (b ∷ p) all = (let l : b.level ≤ z.key.level = level_le b z.key all.0 in omega (arith, here), climb p all.1)
 
 -- one more update keeps a whole document whole
-pub whole_next : (us : List UpdateView) (u : UpdateView) → Follows us u → IsWhole (versions_of us) → IsWhole (versions_of (u ∷ us))
+pub whole_next : (us : List UpdateView) (u : UpdateView) → Follows us u → IsWhole (versions_in us) → IsWhole (versions_in (u ∷ us))
 whole_next us u follows whole = record {
   ordered = (new_in us u follows, parents_in us u follows, refl, whole.ordered);
   tree = tree_with_nodes_at level u.id S rs 0 (document_in vs) whole.tree new sub (seen_under vs whole u.parents);
@@ -146,10 +146,10 @@ whole_next us u follows whole = record {
 }
   where
     vs : List Version
-    vs = versions_of us
+    vs = versions_in us
 
     next : Version
-    next = version_of u vs
+    next = version_in u vs
 
     level : ℕ
     level = 1 + greatest_level vs u.parents
@@ -202,6 +202,6 @@ whole_none = record {
 }
 
 -- the document of a legal history is a tree
-pub whole_legal : (us : List UpdateView) → IsLegalLog us → IsWhole (versions_of us)
+pub whole_legal : (us : List UpdateView) → IsLegalLog us → IsWhole (versions_in us)
 whole_legal [] legal = whole_none
 whole_legal (u ∷ us) legal = whole_next us u legal.0 (whole_legal us legal.1)

@@ -12,7 +12,7 @@ use Rattle.braid_change.specs.Splices.{first_past}
 use Rattle.braid_graph.specs.Entries.{Holds, HoldsAll}
 use Rattle.braid_graph.specs.Ancestries.{IsLeastUnheld}
 use Rattle.braid_graph.specs.Frontiers.{frontier_of}
-use Rattle.braid_text.specs.Versions.{has_version, text_in, version_of, versions_of}
+use Rattle.braid_text.specs.Versions.{has_version, text_in, version_in, versions_in}
 use Rattle.braid_text.specs.Histories.{graph_of, MayFollow, text_at, elements_in, deletions_in}
 use Rattle.braid_text.specs.declared.room.Room.{Room}
 use Rattle.braid_text.specs.declared.room.Which.{Which}
@@ -43,12 +43,12 @@ find_in v (u ∷ us) = if is_eq (id_cmp v u.id) then Some u else find_in v us
 -- the first of these identifiers that no update has; of rising ones it is the least
 abbrev pub first_missing : List (List ℕ) → List UpdateView → Option (List ℕ)
 first_missing [] us = None
-first_missing (p ∷ ps) us = if has_version p (versions_of us) then first_missing ps us else Some p
+first_missing (p ∷ ps) us = if has_version p (versions_in us) then first_missing ps us else Some p
 
 -- what an update needs: one version, its elements and its deletions; the width is that of the whole frontier afterwards
 abbrev pub needs_in : List UpdateView → UpdateView → Room
 needs_in us u =
-    let v = version_of u (versions_of us) in
+    let v = version_in u (versions_in us) in
     record { versions = 1; elements = length v.nodes; deletions = length v.deleted; width = length (frontier_of (graph_of (u ∷ us))) }
 
 -- the first count, in the order of `Which`, of which more is needed than there is room
@@ -63,8 +63,8 @@ over need room =
 abbrev pub room_in : Room → List UpdateView → Room
 room_in limits us = record {
   versions = limits.versions - length us;
-  elements = limits.elements - length (elements_in (versions_of us));
-  deletions = limits.deletions - length (deletions_in (versions_of us));
+  elements = limits.elements - length (elements_in (versions_in us));
+  deletions = limits.deletions - length (deletions_in (versions_in us));
   width = limits.width;
 }
 
@@ -81,7 +81,7 @@ judge_held u None = None
 -- Known, Clash, UnknownParent or OutOfRange, in this order; none where the update may follow
 abbrev pub refusal_in : List UpdateView → UpdateView → Option Accept
 refusal_in us u =
-    let t = text_in (versions_of us) u.parents in
+    let t = text_in (versions_in us) u.parents in
     first (judge_held u (find_in u.id us))
     (first (option_map UnknownParent (first_missing u.parents us))
     (option_map (λ (n : ℕ). OutOfRange n (length t)) (first_past t u.change)))
@@ -124,7 +124,7 @@ pub record HasRoom (need room : Room) : Type 0 where
   pub deletions : need.deletions ≤ room.deletions
   pub width : need.width ≤ room.width
 
--- when each answer comes, of an update whose parents rise; Memory may come for any
+-- when each answer comes, of an update whose parents rise; Memory may come for any update that is not held
 abbrev pub IsAnswer : Room → List UpdateView → UpdateView → Accept → Type 0
 IsAnswer room H u New = MayFollow H u × HasRoom (needs_of H u) room
 IsAnswer room H u Known = Contains H u
@@ -134,4 +134,4 @@ IsAnswer room H u (OutOfRange patch len) =
     ¬ (Holds (graph_of H) u.id) × HoldsAll (graph_of H) u.parents × (first_past (text_at H u.parents) u.change ≡ Some patch)
     × (len ≡ length (text_at H u.parents))
 IsAnswer room H u (Full which need left) = MayFollow H u × IsOver (needs_of H u) room which need left
-IsAnswer room H u Memory = Unit {0}
+IsAnswer room H u Memory = ¬ (Contains H u)

@@ -9,7 +9,7 @@ use Rattle.braid_graph.specs.Frontiers.{frontier_of}
 use Rattle.braid_tree.specs.Keys.{Key}
 use Rattle.braid_tree.specs.Nodes.{Node}
 use Rattle.braid_tree.specs.Elements.{Element, element_of}
-use Rattle.braid_text.specs.Versions.{Version, ancestors_in, document_in, seen_in, text_in, version_of, versions_of}
+use Rattle.braid_text.specs.Versions.{Version, ancestors_in, document_in, seen_in, text_in, version_in, versions_in}
 
 -- an update's entry in the graph: its identifier and its parents
 abbrev pub entry_of : UpdateView → GraphEntry
@@ -34,7 +34,7 @@ pub record Follows (us : List UpdateView) (u : UpdateView) : Type 0 where
   pub parents_held : HoldsAll (graph_of us) u.parents
   pub rising : IsRising u.parents
   pub built : IsBuilt u.parents u.change
-  pub fits : IsSome (spliced (text_in (versions_of us) u.parents) u.change)
+  pub fits : IsSome (spliced (text_in (versions_in us) u.parents) u.change)
 
 -- each update may follow those before it; newest first
 abbrev pub IsLegalLog : List UpdateView → Type 0
@@ -51,11 +51,11 @@ IsLegal H = IsLegalLog (reverse H)
 
 -- what a history has of its versions, newest first
 abbrev pub versions_at : List UpdateView → List Version
-versions_at H = versions_of (reverse H)
+versions_at H = versions_in (reverse H)
 
 -- what an update adds to a history
 abbrev pub added_by : List UpdateView → UpdateView → Version
-added_by H u = version_of u (versions_at H)
+added_by H u = version_in u (versions_at H)
 
 -- all nodes of a history in reading order, the deleted ones too
 abbrev pub document_of : List UpdateView → List (Node Key)

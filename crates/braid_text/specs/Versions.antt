@@ -55,13 +55,13 @@ abbrev pub text_in : List Version → List (List ℕ) → List ℕ
 text_in vs F = chars_of (seen_in vs F)
 
 -- what an update adds to the versions before it: one level above its highest parent, by what its parents see
-abbrev pub version_of : UpdateView → List Version → Version
-version_of u vs =
+abbrev pub version_in : UpdateView → List Version → Version
+version_in u vs =
     let S = seen_in vs u.parents in
     let level = 1 + greatest_level vs u.parents in
     record { id = u.id; parents = u.parents; level = level; nodes = added_nodes level u.id S u.change; deleted = deleted_keys S u.change }
 
 -- the versions of updates
-abbrev pub versions_of : List UpdateView → List Version
-versions_of [] = []
-versions_of (u ∷ us) = let vs = versions_of us in version_of u vs ∷ vs
+abbrev pub versions_in : List UpdateView → List Version
+versions_in [] = []
+versions_in (u ∷ us) = let vs = versions_in us in version_in u vs ∷ vs

@@ -16,6 +16,6 @@ pub enum Accept {
     OutOfRange { patch: u32, len: u32 },
     /// The first of the counts, in the order of `Which`, of which more is needed than there is room.
     Full { which: Which, need: u64, room: u64 },
-    /// There was no memory.
+    /// There was no memory. It never comes for an update that is held.
     Memory,
 }

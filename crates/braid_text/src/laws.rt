@@ -1,6 +1,6 @@
 //! Laws of the definitions, each the contract of a function that does nothing.
 
-ghost use Rattle.std.specs.Prelude.{◌≡◌, ◌≢◌, ◌↔◌, ◌+◌, ◌++◌, ◌∷◌, [], ℕ, List, Some, IsSome, MatchOption, true, codes, length, map, Contains};
+ghost use Rattle.std.specs.Prelude.{◌≡◌, ◌≢◌, ◌↔◌, ◌+◌, ◌-◌, ◌++◌, ◌∷◌, [], ℕ, List, Some, IsSome, MatchOption, true, codes, length, map, Contains};
 ghost use Rattle.std.specs.declared.cmp.Ordering.TheVariants.{Less};
 ghost use Rattle.braid_ids.specs.Identifiers.{IsIdentifier};
 ghost use Rattle.braid_ids.specs.Frontiers.{IsRising};
@@ -14,11 +14,12 @@ ghost use Rattle.braid_graph.specs.Frontiers.{frontier_of};
 ghost use Rattle.braid_tree.specs.Keys.{Key, key_cmp};
 ghost use Rattle.braid_tree.specs.Nodes.{Node, IsReading, with_nodes};
 ghost use Rattle.braid_tree.specs.Elements.{Element, element_of};
+ghost use Rattle.braid_tree.specs.Trees.{IsTree};
 ghost use Rattle.braid_rebase.specs.Additions.{ranges_at, seen_after};
 ghost use Rattle.braid_text.specs.Versions.{Version, has_version};
 ghost use Rattle.braid_text.specs.Histories.{graph_of, SameGraph, AreCompatible, MayFollow, IsLegal, versions_at, added_by, document_of, ancestors_at, seen_at, text_at, text_of, elements_by, deletions_by, elements_of, deletions_of};
 ghost use Rattle.braid_text.specs.Documents.{IsDocument, IsSeen};
-ghost use Rattle.braid_text.specs.Answers.{needs_of, answer_to, HasRoom, IsAnswer};
+ghost use Rattle.braid_text.specs.Answers.{needs_of, room_of, answer_to, HasRoom, IsAnswer};
 ghost use Rattle.braid_text.specs.Alike.{AreAlike};
 ghost use Rattle.braid_text.specs.Sent.{sent};
 ghost use Rattle.braid_text.specs.Worked.{x_1, p_1, q_1, r_1, p_deletes, a_1, b_1, m_1, a_other, x_hello, y_1, z_1, room_for};
@@ -65,10 +66,12 @@ pub fn added_law()
     ensures level { (H : List UpdateView) (u : UpdateView) → IsLegal H → HoldsAll (graph_of H) u.parents → (added_by H u).level ≡ 1 + greatest_by (level_of (graph_of H)) u.parents }
 {}
 
-/// The document of a legal history is the one reading of the nodes that its versions insert.
+/// The document of a legal history is the one reading of the nodes that its versions insert. It is a tree: what stands
+/// above a node is the path of the node that is its origin, or nothing at the root.
 pub fn document_law()
     ensures listed { (H : List UpdateView) → IsLegal H → IsDocument H (document_of H) }
     ensures one { (H : List UpdateView) (d e : List (Node Key)) → IsDocument H d → IsDocument H e → d ≡ e }
+    ensures tree { (H : List UpdateView) → IsLegal H → IsTree key_cmp (document_of H) }
     ensures counted { (H : List UpdateView) → length (document_of H) ≡ length (elements_of H) }
     ensures keys { (H : List UpdateView) → IsLegal H → (x y : Node Key) → Contains (document_of H) x → Contains (document_of H) y → x.key ≡ y.key → x ≡ y }
 {}
@@ -99,15 +102,26 @@ pub fn graph_law()
 {}
 
 /// The answer to an update that has an identifier and rising parents and is built is the one that fits, and no other fits
-/// but want of memory. It is New exactly where the longer history is legal and there is room. Needed are as many elements
-/// as the ranges insert, as many deletions as they remove, and the width of the frontier afterwards.
+/// but want of memory; to an update that is held only Known fits. It is New exactly where the longer history is legal and
+/// there is room. Needed are as many elements as the ranges insert, as many deletions as they remove, and the width of the
+/// frontier afterwards.
 pub fn answers_law()
     ensures fits { (room : Room) (H : List UpdateView) (u : UpdateView) → IsLegal H → IsIdentifier u.id → IsRising u.parents → IsBuilt u.parents u.change → IsAnswer room H u (answer_to room H u) }
     ensures one { (room : Room) (H : List UpdateView) (u : UpdateView) → IsLegal H → IsRising u.parents → (a : Accept) → IsAnswer room H u a → a ≢ Memory → a ≡ answer_to room H u }
+    ensures known { (room : Room) (H : List UpdateView) (u : UpdateView) → IsLegal H → IsRising u.parents → Contains H u → (a : Accept) → IsAnswer room H u a → a ≡ Known }
     ensures new { (room : Room) (H : List UpdateView) (u : UpdateView) → IsLegal H → IsIdentifier u.id → IsRising u.parents → IsBuilt u.parents u.change → (answer_to room H u ≡ New) ↔ (IsLegal (H ++ u ∷ []) × HasRoom (needs_of H u) room) }
     ensures elements { (H : List UpdateView) (u : UpdateView) → (needs_of H u).elements ≡ inserted (ranges_at (seen_at H u.parents) u.change) }
     ensures deletions { (H : List UpdateView) (u : UpdateView) → IsShaped u.change → (needs_of H u).deletions ≡ removed (ranges_at (seen_at H u.parents) u.change) }
     ensures width { (H : List UpdateView) (u : UpdateView) → (needs_of H u).width ≡ length (frontier_of (graph_of (H ++ u ∷ []))) }
+{}
+
+/// What limits leave beside a history is each of them without what the history has of it: its updates, its elements, its
+/// deletions. The width is left whole.
+pub fn room_law()
+    ensures versions { (limits : Room) (H : List UpdateView) → (room_of limits H).versions ≡ limits.versions - length H }
+    ensures elements { (limits : Room) (H : List UpdateView) → (room_of limits H).elements ≡ limits.elements - length (elements_of H) }
+    ensures deletions { (limits : Room) (H : List UpdateView) → (room_of limits H).deletions ≡ limits.deletions - length (deletions_of H) }
+    ensures width { (limits : Room) (H : List UpdateView) → (room_of limits H).width ≡ limits.width }
 {}
 
 /// Legal histories of the same updates agree on everything that does not speak of the order of arrival.
@@ -133,7 +147,13 @@ pub fn rows()
     ensures roots { text_of (a_1 ∷ b_1 ∷ []) ≡ codes "BA" }
     ensures roots_back { text_of (b_1 ∷ a_1 ∷ []) ≡ codes "BA" }
     ensures merge { text_of (a_1 ∷ b_1 ∷ m_1 ∷ []) ≡ codes "BA" }
+    ensures merge_back { text_of (b_1 ∷ a_1 ∷ m_1 ∷ []) ≡ codes "BA" }
     ensures merge_frontier { frontier_of (graph_of (a_1 ∷ b_1 ∷ m_1 ∷ [])) ≡ codes "m-1" ∷ [] }
+    ensures merge_frontier_back { frontier_of (graph_of (b_1 ∷ a_1 ∷ m_1 ∷ [])) ≡ codes "m-1" ∷ [] }
+    ensures bodies { text_of (x_hello ∷ y_1 ∷ []) ≡ codes "hello you" }
+    ensures sent_past { sent (a_1 ∷ b_1 ∷ m_1 ∷ []) (codes "b-1" ∷ []) ≡ a_1 ∷ m_1 ∷ [] }
+    ensures sent_all { sent (b_1 ∷ a_1 ∷ m_1 ∷ []) [] ≡ b_1 ∷ a_1 ∷ m_1 ∷ [] }
+    ensures sent_none { sent (b_1 ∷ a_1 ∷ m_1 ∷ []) (codes "m-1" ∷ []) ≡ [] }
 {}
 
 /// The answers of small histories to updates.
@@ -154,5 +174,8 @@ pub fn rows_are_legal()
     ensures siblings { IsLegal (x_1 ∷ p_1 ∷ q_1 ∷ r_1 ∷ []) }
     ensures siblings_back { IsLegal (x_1 ∷ q_1 ∷ p_1 ∷ r_1 ∷ []) }
     ensures concurrent { IsLegal (x_1 ∷ p_deletes ∷ q_1 ∷ []) }
+    ensures concurrent_back { IsLegal (x_1 ∷ q_1 ∷ p_deletes ∷ []) }
     ensures merge { IsLegal (a_1 ∷ b_1 ∷ m_1 ∷ []) }
+    ensures merge_back { IsLegal (b_1 ∷ a_1 ∷ m_1 ∷ []) }
+    ensures bodies { IsLegal (x_hello ∷ y_1 ∷ []) }
 {}

@@ -5,7 +5,7 @@ use Rattle.std.specs.Option.{option_map}
 use Rattle.std.specs.List.{AllByRecursion}
 use Rattle.braid_tree.specs.Keys.{Key, key_cmp}
 use Rattle.braid_tree.specs.Nodes.{Node, path_of, with_nodes, run}
-use Rattle.braid_tree.specs.Trees.{Member, IsWithout, StartsBelow, IsTree, EndsAt, AreDistinct, AreRisingKeys}
+use Rattle.braid_tree.specs.Trees.{Member, IsWithout, StartsSmaller, IsTree, EndsAt, AreDistinct, AreRisingKeys}
 use Rattle.braid_tree.specs.Elements.{Element, element_of, last_key}
 use Rattle.braid_tree.specs.Rows.{Stamp, Row, element_at, key_at, key_by, run_rows, place, next_key, Inserts}
 use Rattle.braid_tree.specs.Inside.{IsPlaceOf, IsPassed, IsNotPassed}
@@ -24,7 +24,8 @@ run_listed vs (c ∷ cs) origin above n h =
     ap (λ (o : Option Key). record { key = next_key vs n; char = c; origin = o } ∷ map (element_at vs) (run_rows (length vs - 1) (Some (place (length vs - 1) n)) (n + 1) cs)) (sym h)
     ∙ ap (λ t. record { key = next_key vs n; char = c; origin = last_key above } ∷ t) (run_listed vs cs (Some (place (length vs - 1) n)) (above ++ next_key vs n ∷ []) (n + 1) (last_key-end above (next_key vs n)))
 
-head_key : (vs : List Stamp) (r : Row) (rows : List Row) (e : Node Key) (es : List (Node Key)) → map (element_at vs) (r ∷ rows) ≡ map element_of (e ∷ es) → key_at vs r.at ≡ e.key
+-- the first row has the key of the first node
+pub head_key : (vs : List Stamp) (r : Row) (rows : List Row) (e : Node Key) (es : List (Node Key)) → map (element_at vs) (r ∷ rows) ≡ map element_of (e ∷ es) → key_at vs r.at ≡ e.key
 head_key vs r rows e es same = let g : element_at vs r ≡ element_of e = cc in ap (λ (x : Element). x.key) g
 
 -- what holds of rows by place holds of the nodes in order
@@ -41,7 +42,7 @@ passed_nodes vs first (suc s) m (r ∷ rows) (e ∷ es) same le h = passed_nodes
 
 -- and of the next row
 stop_node : (vs : List Stamp) (first : At) (p : ℕ) (rows : List Row) (es : List (Node Key)) → map (element_at vs) rows ≡ map element_of es → (p < length rows → IsNotPassed vs rows first p)
-    → AllByRecursion (IsWithout (key_at vs first)) es → StartsBelow key_cmp (key_at vs first) (drop p es)
+    → AllByRecursion (IsWithout (key_at vs first)) es → StartsSmaller key_cmp (key_at vs first) (drop p es)
 stop_node vs first zero rows [] same h new = tt
 stop_node vs first zero [] (e ∷ es) same h new = cc
 stop_node vs first zero (r ∷ rows) (e ∷ es) same h new = elim (tri key_cmp keys_strict (key_at vs first) e.key) [

@@ -1,5 +1,5 @@
 -- What a caller of a document needs between two of its calls.
-use Rattle.std.proofs.Common.{sym, ◌≡◌, ℕ, zero, suc, ◌+◌, ◌-◌, ◌<◌, List, [], ◌∷◌, ◌++◌, Option, Some, None, MatchOption, Bool, true, false, cond, length, map, filter, slice_get, refl, ap, ◌∙◌, inl, inr, ◌⊎◌, arith, Less}
+use Rattle.std.proofs.Common.{sym, ◌≡◌, ℕ, zero, suc, ◌+◌, ◌-◌, ◌<◌, List, [], ◌∷◌, ◌++◌, Option, Some, None, MatchOption, Bool, true, false, cond, Contains, length, map, filter, slice_get, refl, ap, ◌∙◌, inl, inr, ◌⊎◌, arith, Less}
 use Rattle.std.specs.Option.{option_map}
 use Rattle.std.specs.List.{AllByRecursion}
 use Rattle.std.proofs.lemmas.List.{length-append}
@@ -7,18 +7,21 @@ use Rattle.std.proofs.lemmas.List.Elements.{All-weaker, All-head, All-tail}
 use Rattle.braid_tree.specs.declared.at.At.{At}
 use Rattle.braid_tree.specs.Keys.{Key, key_cmp, key_in}
 use Rattle.braid_tree.specs.Nodes.{Node, with_node, with_nodes, run}
-use Rattle.braid_tree.specs.Trees.{Member, IsWithout, HasPath, IsTree, AreRisingKeys, AreNewKeys}
+use Rattle.braid_tree.specs.Trees.{Member, AreDistinct, IsWithout, HasPath, IsTree, AreRisingKeys, AreNewKeys}
 use Rattle.braid_tree.specs.Elements.{Element, element_of}
-use Rattle.braid_tree.specs.Rows.{Stamp, Row, Deletion, HasPlace, IsNextOrdinal, AreKnown, IsKnownRow, IsOrigin, Inserts, key_by, key_at, element_at, next_key, place}
+use Rattle.braid_tree.specs.Rows.{Stamp, Row, RowDeletion, HasPlace, AreNewOrdinals, AreKnown, IsKnownRow, IsOrigin, Inserts, key_by, key_at, element_at, next_key, place}
+use Rattle.braid_tree.specs.Inside.{IsPlaceOf, HaveOwnPlaces}
 use Rattle.braid_tree.specs.Seen.{is_seen_by, seen_rows, place_in}
 use Rattle.braid_tree.proofs.Keys.{keys_strict}
 use Rattle.braid_tree.proofs.Kept.{tree_with_run, new_with, rising_next}
-use Rattle.braid_tree.proofs.Bridge.{next_keys_rise, row_node}
+use Rattle.braid_tree.proofs.Bridge.{next_keys_rise, row_node, head_key}
 use Rattle.braid_tree.proofs.Member.{all_member}
 use Rattle.braid_tree.proofs.Places.{place_number}
 use Rattle.std.proofs.lemmas.Option.{slice_get_cases}
 use Rattle.braid_tree.proofs.Links.{get_append, get_end}
 use Rattle.braid_tree.proofs.KeptRows.{known_place}
+use Rattle.braid_tree.proofs.SeenRows.{seen_words}
+use Rattle.braid_ids.specs.MarkSets.{IsMarked}
 
 -- after a version is begun, what was known stays so
 pub known_begin : (vs : List Stamp) (v : Stamp) (rows : List Row) → AreKnown vs rows → AreKnown (vs ++ v ∷ []) rows
@@ -32,7 +35,7 @@ known_begin vs v rows known = All-weaker (IsKnownRow vs) (IsKnownRow (vs ++ v �
     origin (Some at) h = wider at.version h
 
 -- no row is the new version's
-pub next_begin : (vs : List Stamp) (v : Stamp) (rows : List Row) → AreKnown vs rows → IsNextOrdinal rows (length (vs ++ v ∷ []) - 1) 0
+pub next_begin : (vs : List Stamp) (v : Stamp) (rows : List Row) → AreKnown vs rows → AreNewOrdinals rows (length (vs ++ v ∷ []) - 1) 0
 next_begin vs v rows known m le h =
     let l : length (vs ++ v ∷ []) - 1 < length vs = known_place vs rows (place (length (vs ++ v ∷ []) - 1) m) known h in absurd (omega (arith, l, length-append vs (v ∷ [])))
 
@@ -111,6 +114,27 @@ place_kept p (r ∷ rows) at h = go (λ m. place_kept p rows at m) (p r) h
     go ih true (inr m) = inr (ih m)
     go ih false m = inr (ih m)
 
+-- rows that a test keeps have places of their own, as all have
+pub own_filter : (p : Row → Bool) (rows : List Row) → HaveOwnPlaces rows → HaveOwnPlaces (filter p rows)
+own_filter p [] own = tt
+own_filter p (r ∷ rows) own = go (p r) (own_filter p rows own.1)
+  where
+    go : (b : Bool) → HaveOwnPlaces (filter p rows) → HaveOwnPlaces (cond b (r ∷ filter p rows) (filter p rows))
+    go true ih = (λ h. own.0 (place_kept p rows r.at h), ih)
+    go false ih = ih
+
+-- rows that list nodes with different keys have places of their own
+pub own_listed : (vs : List Stamp) (rows : List Row) (es : List (Node Key)) → map (element_at vs) rows ≡ map element_of es → AreDistinct es → HaveOwnPlaces rows
+own_listed vs [] es same distinct = tt
+own_listed vs (r ∷ rows) [] same distinct = cc
+own_listed vs (r ∷ rows) (e ∷ es) same distinct = (λ h. clash (place_number rows r.at h), own_listed vs rows es (cc) distinct.1)
+  where
+    clash : (k : ℕ) × (k < length rows) × IsPlaceOf rows r.at k → ⊥
+    clash (k, l, here) = named (row_node vs r.at k rows es (cc) here)
+      where
+        named : (y : Node Key) × Member y es × (y.key ≡ key_at vs r.at) → ⊥
+        named (y, m, f) = all_member (λ (z : Node Key). (z.key ≡ e.key) → ⊥) y es distinct.0 m (f ∙ head_key vs r rows e es same)
+
 place_got : (rows : List Row) (n : ℕ) (at : At) → option_map place_in (slice_get rows n) ≡ Some at → HasPlace rows at
 place_got [] zero at h = cc
 place_got [] (suc n) at h = cc
@@ -118,16 +142,35 @@ place_got (r ∷ rows) zero at h = inl cc
 place_got (r ∷ rows) (suc n) at h = inr (place_got rows n at h)
 
 -- the place of a visible element is there
-pub visible_there : (marks : List Bool) (deletions : List Deletion) (rows : List Row) (n : ℕ) (at : At) → option_map place_in (slice_get (seen_rows marks deletions rows) n) ≡ Some at → HasPlace rows at
+pub visible_there : (marks : List Bool) (deletions : List RowDeletion) (rows : List Row) (n : ℕ) (at : At) → option_map place_in (slice_get (seen_rows marks deletions rows) n) ≡ Some at → HasPlace rows at
 visible_there marks deletions rows n at h = place_kept (is_seen_by marks deletions) rows at (place_got (seen_rows marks deletions rows) n at h)
 
 -- the same, of an answer that may be none
-pub answer_there : (marks : List Bool) (deletions : List Deletion) (rows : List Row) (n : ℕ) (o : Option At) → o ≡ option_map place_in (slice_get (seen_rows marks deletions rows) n) → MatchOption o (Unit {0}) (HasPlace rows)
+pub answer_there : (marks : List Bool) (deletions : List RowDeletion) (rows : List Row) (n : ℕ) (o : Option At) → o ≡ option_map place_in (slice_get (seen_rows marks deletions rows) n) → MatchOption o (Unit {0}) (HasPlace rows)
 answer_there marks deletions rows n None h = tt
 answer_there marks deletions rows n (Some at) h = visible_there marks deletions rows n at (sym h)
 
+row_got : (p : Row → Bool) (rows : List Row) (n : ℕ) (at : At) → option_map place_in (slice_get (filter p rows) n) ≡ Some at → (r : Row) × (p r ≡ true) × (r.at ≡ at)
+row_got p [] zero at h = cc
+row_got p [] (suc n) at h = cc
+row_got p (r ∷ rows) n at h = go (λ m g. row_got p rows m at g) (p r) refl n h
+  where
+    go : ((m : ℕ) → option_map place_in (slice_get (filter p rows) m) ≡ Some at → (r : Row) × (p r ≡ true) × (r.at ≡ at)) → (b : Bool) → p r ≡ b → (m : ℕ) → option_map place_in (slice_get (cond b (r ∷ filter p rows) (filter p rows)) m) ≡ Some at
+        → (r : Row) × (p r ≡ true) × (r.at ≡ at)
+    go ih true e zero g = (r, e, cc)
+    go ih true e (suc m) g = ih m g
+    go ih false e m g = ih m g
+
+-- a marked version has not deleted a visible element
+pub visible_undeleted : (marks : List Bool) (deletions : List RowDeletion) (rows : List Row) (n : ℕ) (o : Option At) (at : At) (by : ℕ) → o ≡ option_map place_in (slice_get (seen_rows marks deletions rows) n) → o ≡ Some at → IsMarked marks by
+    → Contains deletions (record { at = at; by = by }) → ⊥
+visible_undeleted marks deletions rows n o at by value is marked c = go (row_got (is_seen_by marks deletions) rows n at (sym value ∙ is))
+  where
+    go : (r : Row) × (is_seen_by marks deletions r ≡ true) × (r.at ≡ at) → ⊥
+    go (r, seen, e) = ((seen_words marks deletions r).0 seen).1 (record { at = at; by = by }, c, sym e, marked)
+
 -- where a run's keys are new to the tree that the rows list, its ordinals are new to the rows
-pub next_from_new : (vs : List Stamp) (rows : List Row) (es : List (Node Key)) (n : ℕ) → map (element_at vs) rows ≡ map element_of es → AreNewKeys (next_key vs) n es → IsNextOrdinal rows (length vs - 1) n
+pub next_from_new : (vs : List Stamp) (rows : List Row) (es : List (Node Key)) (n : ℕ) → map (element_at vs) rows ≡ map element_of es → AreNewKeys (next_key vs) n es → AreNewOrdinals rows (length vs - 1) n
 next_from_new vs rows es n listed new m le h =
     let p = place_number rows (place (length vs - 1) m) h in
     let y = row_node vs (place (length vs - 1) m) p.0 rows es listed p.2 in

@@ -4,7 +4,7 @@ use Rattle.std.specs.List.{AllByRecursion}
 use Rattle.std.proofs.lemmas.Cmp.{tied_itself}
 use Rattle.braid_tree.specs.Paths.{path_cmp}
 use Rattle.braid_tree.specs.Nodes.{Node, path_of, Before, IsReading, with_node, with_nodes, run}
-use Rattle.braid_tree.specs.Trees.{Member, HasPath, RisesToKey, IsWithout, AreDistinct, IsTree, EndsAt, AreAbove, StartsBelow, AreRisingKeys, AreNewKeys}
+use Rattle.braid_tree.specs.Trees.{Member, HasPath, RisesToKey, IsWithout, AreDistinct, IsTree, EndsAt, AreGreater, StartsSmaller, AreRisingKeys, AreNewKeys}
 use Rattle.braid_tree.proofs.Member.{all_member, all_from_members, last_same, member_append_right}
 use Rattle.braid_tree.proofs.Order.{IsStrict, irrefl, asym, below_trans, tri, paths_strict}
 use Rattle.braid_tree.proofs.Placing.{with_node_here, with_node_later}
@@ -193,7 +193,7 @@ module _ {K : Type 0} (R : K → K → Ordering) (o : IsStrict R) where
   -- A run lands behind its origin, past the nodes with keys greater than its first.
   pub run_lands : (key : ℕ → K) → AreRisingKeys R key → (cs : List ℕ) (above : List K) (n : ℕ) (front over tail : List (Node K)) → IsTree R (front ++ (over ++ tail)) → AreNewKeys key n (front ++ (over ++ tail))
       → EndsAt front above → AllByRecursion (λ (b : K). R b (key n) ≡ Less) above
-      → AreAbove R (key n) over → StartsBelow R (key n) tail
+      → AreGreater R (key n) over → StartsSmaller R (key n) tail
       → with_nodes R (run key above n cs) (front ++ (over ++ tail)) ≡ front ++ (over ++ (run key above n cs ++ tail))
   run_lands key rise [] above n front over tail tree new ends up greater below = refl
   run_lands key rise (c ∷ cs) above n front over tail tree new ends up greater below =

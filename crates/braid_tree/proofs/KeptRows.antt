@@ -10,11 +10,12 @@ use Rattle.braid_tree.specs.declared.at.At.{At}
 use Rattle.braid_tree.specs.declared.version.Version.{Version}
 use Rattle.braid_tree.specs.declared.row.PlainRow.{PlainRow}
 use Rattle.braid_tree.specs.declared.removal.Removal.{Removal}
-use Rattle.braid_tree.specs.Rows.{Row, Stamp, Deletion, HasPlace, IsNextOrdinal, AreKnown, PutsRun, place}
+use Rattle.braid_tree.specs.Rows.{Row, Stamp, RowDeletion, HasPlace, AreNewOrdinals, AreKnown, PutsRun, PutsOne, place}
 use Rattle.braid_tree.specs.Inside.{stamps_in, rows_in, row_of, deletions_in, deletion_of, new_rows, last_below, IsPlaceOf, AreLinked, IsNewest, HaveOwnPlaces, IsKept}
 use Rattle.braid_tree.proofs.Links.{get_append, get_end, last_append, last_new, last_other, last_absent}
 use Rattle.braid_tree.proofs.Places.{known_put, own_put, keeps_put}
 use Rattle.braid_tree.proofs.Put.{puts_run}
+use Rattle.braid_tree.proofs.Deletions.{puts_at_end}
 use Rattle.braid_tree.proofs.RowReads.{place_is, place_read, place_within}
 
 -- a row's place is there
@@ -44,13 +45,13 @@ own_number (r ∷ rows) at (suc j) zero own a b = absurd (own.0 (subst (HasPlace
 own_number (r ∷ rows) at (suc j) (suc k) own a b = ap suc (own_number rows at j k own.1 a b)
 
 -- nothing deletes an element that is not there
-lacks_new : (rows : List Row) (ds : List Deletion) (at : At) → All (λ (d : Deletion). HasPlace rows d.at) ds → (HasPlace rows at → ⊥) → (n : ℕ) (d : Deletion) → slice_get ds n ≡ Some d → d.at ≡ at → ⊥
+lacks_new : (rows : List Row) (ds : List RowDeletion) (at : At) → All (λ (d : RowDeletion). HasPlace rows d.at) ds → (HasPlace rows at → ⊥) → (n : ℕ) (d : RowDeletion) → slice_get ds n ≡ Some d → d.at ≡ at → ⊥
 lacks_new rows ds at listed none n d e s =
     let l = slice_get_within ds n d e in
     let f : Some (get_or ds n d) ≡ Some d = sym (slice_get-get_or ds n d l) ∙ e in
-    let g : get_or ds n d ≡ d = cc f in none (subst (HasPlace rows) s (subst (λ (x : Deletion). HasPlace rows x.at) g (listed n d l)))
+    let g : get_or ds n d ≡ d = cc f in none (subst (HasPlace rows) s (subst (λ (x : RowDeletion). HasPlace rows x.at) g (listed n d l)))
 
-newest_run : (rows : List Row) (xs : List Removal) (version : ℕ) (origin : Option At) (n : ℕ) (cs : List ℕ) → All (λ (d : Deletion). HasPlace rows d.at) (deletions_in xs) → IsNextOrdinal rows version n → All (IsNewest xs) (new_rows version origin n cs)
+newest_run : (rows : List Row) (xs : List Removal) (version : ℕ) (origin : Option At) (n : ℕ) (cs : List ℕ) → All (λ (d : RowDeletion). HasPlace rows d.at) (deletions_in xs) → AreNewOrdinals rows version n → All (IsNewest xs) (new_rows version origin n cs)
 newest_run rows xs version origin n [] listed next = All-nil (IsNewest xs)
 newest_run rows xs version origin n (c ∷ cs) listed next =
     All-cons (IsNewest xs) (record { at = place version n; character = c; origin = origin; newest = None }) (new_rows version (Some (place version n)) (n + 1) cs)
@@ -59,12 +60,12 @@ newest_run rows xs version origin n (c ∷ cs) listed next =
 
 -- a run's rows, put together between the others
 pub insert_kept : (vs : List Version) (rows new : List PlainRow) (xs : List Removal) (version : ℕ) (after : Option At) (n : ℕ) (cs : List ℕ) (p : ℕ) → IsKept vs rows xs
-    → MatchOption after (Unit {0}) (HasPlace (rows_in rows)) → IsNextOrdinal (rows_in rows) version n → version < length (stamps_in vs) → p ≤ length rows
+    → MatchOption after (Unit {0}) (HasPlace (rows_in rows)) → AreNewOrdinals (rows_in rows) version n → version < length (stamps_in vs) → p ≤ length rows
     → new ≡ take p rows ++ (new_rows version after n cs ++ drop p rows) → length new < 2 ^ 32 → IsKept vs new xs
 insert_kept vs rows new xs version after n cs p kept there next lt within e few = record {
   known = known_put (stamps_in vs) (rows_in rows) (rows_in new) version after n cs kept.known lt (known_after (stamps_in vs) (rows_in rows) after kept.known there) put;
   own_places = own_put (rows_in rows) (rows_in new) version after n cs kept.own_places next put;
-  listed = All-weaker (λ (d : Deletion). HasPlace (rows_in rows) d.at) (λ (d : Deletion). HasPlace (rows_in new) d.at) (λ d h. keeps_put (rows_in rows) (rows_in new) version after n cs put d.at h) (deletions_in xs) kept.listed;
+  listed = All-weaker (λ (d : RowDeletion). HasPlace (rows_in rows) d.at) (λ (d : RowDeletion). HasPlace (rows_in new) d.at) (λ d h. keeps_put (rows_in rows) (rows_in new) version after n cs put d.at h) (deletions_in xs) kept.listed;
   linked = kept.linked;
   newest = All-same (IsNewest xs) new (take p rows ++ (new_rows version after n cs ++ drop p rows)) e
       (All-append (IsNewest xs) (take p rows) (new_rows version after n cs ++ drop p rows) (All-take (IsNewest xs) p rows kept.newest)
@@ -94,6 +95,9 @@ module _ (vs : List Version) (rows : List PlainRow) (xs xs' : List Removal) (at 
 
   seen_deletions : deletions_in xs' ≡ deletions_in xs ++ record { at = at; by = by } ∷ []
   seen_deletions = ap deletions_in made ∙ map-append deletion_of xs (record { at = at; by = by; earlier = r.newest } ∷ [])
+
+  pub delete_put : PutsOne (deletions_in xs) (record { at = at; by = by }) (deletions_in xs')
+  delete_put = subst (PutsOne (deletions_in xs) (record { at = at; by = by })) (sym seen_deletions) (puts_at_end (deletions_in xs) (record { at = at; by = by }))
 
   size : length (deletions_in xs) ≡ length xs
   size = length-map xs deletion_of
@@ -158,10 +162,10 @@ module _ (vs : List Version) (rows : List PlainRow) (xs xs' : List Removal) (at 
   delete_kept few = record {
     known = subst (AreKnown (stamps_in vs)) (sym delete_seen) kept.known;
     own_places = subst HaveOwnPlaces (sym delete_seen) kept.own_places;
-    listed = subst (λ t. All (λ (d : Deletion). HasPlace t d.at) (deletions_in xs')) (sym delete_seen)
-        (All-same (λ (d : Deletion). HasPlace (rows_in rows) d.at) (deletions_in xs') (deletions_in xs ++ record { at = at; by = by } ∷ []) seen_deletions
-        (All-append (λ (d : Deletion). HasPlace (rows_in rows) d.at) (deletions_in xs) (record { at = at; by = by } ∷ []) kept.listed
-        (All-cons (λ (d : Deletion). HasPlace (rows_in rows) d.at) (record { at = at; by = by }) [] (has_place_of (rows_in rows) at k here) (All-nil (λ (d : Deletion). HasPlace (rows_in rows) d.at)))));
+    listed = subst (λ t. All (λ (d : RowDeletion). HasPlace t d.at) (deletions_in xs')) (sym delete_seen)
+        (All-same (λ (d : RowDeletion). HasPlace (rows_in rows) d.at) (deletions_in xs') (deletions_in xs ++ record { at = at; by = by } ∷ []) seen_deletions
+        (All-append (λ (d : RowDeletion). HasPlace (rows_in rows) d.at) (deletions_in xs) (record { at = at; by = by } ∷ []) kept.listed
+        (All-cons (λ (d : RowDeletion). HasPlace (rows_in rows) d.at) (record { at = at; by = by }) [] (has_place_of (rows_in rows) at k here) (All-nil (λ (d : RowDeletion). HasPlace (rows_in rows) d.at)))));
     linked = new_linked;
     newest = new_newest;
     few_versions = kept.few_versions;

@@ -15,3 +15,4 @@ pub mod RowReads
 pub mod KeptRows
 pub mod Callers
 pub mod SeenRows
+pub mod Deletions

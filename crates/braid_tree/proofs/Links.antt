@@ -6,8 +6,8 @@ use Rattle.std.proofs.lemmas.List.{length-map, take_all}
 use Rattle.std.proofs.lemmas.List.Folds.{list_any_more}
 use Rattle.std.proofs.lemmas.Option.{slice_get_within, slice_get-get_or, slice_get_cases, slice_get-map}
 use Rattle.braid_ids.specs.MarkSets.{has_mark, IsMarked}
-use Rattle.braid_tree.specs.Rows.{Deletion}
-use Rattle.braid_tree.specs.Seen.{is_same_place, is_hit, is_deleted_by}
+use Rattle.braid_tree.specs.Rows.{RowDeletion}
+use Rattle.braid_tree.specs.Seen.{is_same_place, is_marked_deletion, is_deleted_by}
 use Rattle.braid_tree.specs.Inside.{is_of_place, last_below, deletion_of, deletions_in, AreLinked}
 use Rattle.braid_tree.specs.declared.at.At.{At}
 use Rattle.braid_tree.specs.declared.removal.Removal.{Removal}
@@ -50,14 +50,14 @@ any_take_some p xs n d h =
     ap (λ (k : ℕ). list_any p (take k xs)) s ∙ list_any_more p xs n d l ∙ ap (λ x. list_any p (take n xs) || p x) f
 
 -- the last deletion of a place among the first m, and what is before it
-pub record IsLast (marks : List Bool) (ds : List Deletion) (m : ℕ) (at : At) (n : ℕ) : Type 0 where
+pub record IsLast (marks : List Bool) (ds : List RowDeletion) (m : ℕ) (at : At) (n : ℕ) : Type 0 where
   pub below : n < m
-  pub deletion : Deletion
+  pub deletion : RowDeletion
   pub here : slice_get ds n ≡ Some deletion
   pub same : deletion.at ≡ at
-  pub rest : list_any (is_hit marks at) (take m ds) ≡ (has_mark marks deletion.by || list_any (is_hit marks at) (take n ds))
+  pub rest : list_any (is_marked_deletion marks at) (take m ds) ≡ (has_mark marks deletion.by || list_any (is_marked_deletion marks at) (take n ds))
 
-module _ (marks : List Bool) (ds : List Deletion) (at : At) where
+module _ (marks : List Bool) (ds : List RowDeletion) (at : At) where
   none_here : (m : ℕ) → m ≤ length ds → slice_get ds m ≡ None → length ds ≤ m
   none_here m le e = elim ((slice_get_cases ds m).1) [ inl (x, l, h, g) ↦ absurd (let c : Some x ≡ None = sym h ∙ e in cc) | inr (l, h) ↦ l ]
 
@@ -65,43 +65,43 @@ module _ (marks : List Bool) (ds : List Deletion) (at : At) where
   last_some zero n le h = cc
   last_some (suc m) n le h = go (λ l g. last_some m n l g) (slice_get ds m) refl h
     where
-      wider : (d : Deletion) → slice_get ds m ≡ Some d → is_same_place d.at at ≡ false → IsLast marks ds m at n → IsLast marks ds (suc m) at n
+      wider : (d : RowDeletion) → slice_get ds m ≡ Some d → is_same_place d.at at ≡ false → IsLast marks ds m at n → IsLast marks ds (suc m) at n
       wider d e f l = record {
         below = omega (arith, l.below);
         deletion = l.deletion;
         here = l.here;
         same = l.same;
-        rest = any_take_some (is_hit marks at) ds m d e ∙ ap (λ b. list_any (is_hit marks at) (take m ds) || (b && has_mark marks d.by)) f ∙ or_false (list_any (is_hit marks at) (take m ds)) ∙ l.rest;
+        rest = any_take_some (is_marked_deletion marks at) ds m d e ∙ ap (λ b. list_any (is_marked_deletion marks at) (take m ds) || (b && has_mark marks d.by)) f ∙ or_false (list_any (is_marked_deletion marks at) (take m ds)) ∙ l.rest;
       }
 
-      here : (d : Deletion) → slice_get ds m ≡ Some d → is_same_place d.at at ≡ true → m ≡ n → IsLast marks ds (suc m) at n
+      here : (d : RowDeletion) → slice_get ds m ≡ Some d → is_same_place d.at at ≡ true → m ≡ n → IsLast marks ds (suc m) at n
       here d e t s = subst (λ (k : ℕ). IsLast marks ds (suc m) at k) s (record {
         below = omega arith;
         deletion = d;
         here = e;
         same = same_place_true d.at at t;
-        rest = any_take_some (is_hit marks at) ds m d e ∙ ap (λ b. list_any (is_hit marks at) (take m ds) || (b && has_mark marks d.by)) t ∙ or_comm (list_any (is_hit marks at) (take m ds)) (has_mark marks d.by);
+        rest = any_take_some (is_marked_deletion marks at) ds m d e ∙ ap (λ b. list_any (is_marked_deletion marks at) (take m ds) || (b && has_mark marks d.by)) t ∙ or_comm (list_any (is_marked_deletion marks at) (take m ds)) (has_mark marks d.by);
       })
 
-      test : (m ≤ length ds → last_below ds m at ≡ Some n → IsLast marks ds m at n) → (d : Deletion) → slice_get ds m ≡ Some d → (b : Bool) → is_same_place d.at at ≡ b → cond b (Some m) (last_below ds m at) ≡ Some n → IsLast marks ds (suc m) at n
+      test : (m ≤ length ds → last_below ds m at ≡ Some n → IsLast marks ds m at n) → (d : RowDeletion) → slice_get ds m ≡ Some d → (b : Bool) → is_same_place d.at at ≡ b → cond b (Some m) (last_below ds m at) ≡ Some n → IsLast marks ds (suc m) at n
       test ih d e true t g = here d e t cc
       test ih d e false t g = wider d e t (ih (omega (arith, le)) g)
 
-      go : (m ≤ length ds → last_below ds m at ≡ Some n → IsLast marks ds m at n) → (v : Option Deletion) → slice_get ds m ≡ v → cond (is_of_place v at) (Some m) (last_below ds m at) ≡ Some n → IsLast marks ds (suc m) at n
+      go : (m ≤ length ds → last_below ds m at ≡ Some n → IsLast marks ds m at n) → (v : Option RowDeletion) → slice_get ds m ≡ v → cond (is_of_place v at) (Some m) (last_below ds m at) ≡ Some n → IsLast marks ds (suc m) at n
       go ih None e g = absurd (let l : length ds ≤ m = none_here m (omega (arith, le)) e in omega (arith, l, le))
       go ih (Some d) e g = test ih d e (is_same_place d.at at) refl g
 
-  pub last_none : (m : ℕ) → m ≤ length ds → last_below ds m at ≡ None → list_any (is_hit marks at) (take m ds) ≡ false
+  pub last_none : (m : ℕ) → m ≤ length ds → last_below ds m at ≡ None → list_any (is_marked_deletion marks at) (take m ds) ≡ false
   last_none zero le h = refl
   last_none (suc m) le h = go (λ l g. last_none m l g) (slice_get ds m) refl h
     where
-      test : (m ≤ length ds → last_below ds m at ≡ None → list_any (is_hit marks at) (take m ds) ≡ false) → (d : Deletion) → slice_get ds m ≡ Some d → (b : Bool) → is_same_place d.at at ≡ b → cond b (Some m) (last_below ds m at) ≡ None → list_any (is_hit marks at) (take (suc m) ds) ≡ false
+      test : (m ≤ length ds → last_below ds m at ≡ None → list_any (is_marked_deletion marks at) (take m ds) ≡ false) → (d : RowDeletion) → slice_get ds m ≡ Some d → (b : Bool) → is_same_place d.at at ≡ b → cond b (Some m) (last_below ds m at) ≡ None → list_any (is_marked_deletion marks at) (take (suc m) ds) ≡ false
       test ih d e true t g = cc
       test ih d e false t g =
-          any_take_some (is_hit marks at) ds m d e ∙ ap (λ b. list_any (is_hit marks at) (take m ds) || (b && has_mark marks d.by)) t ∙ or_false (list_any (is_hit marks at) (take m ds))
+          any_take_some (is_marked_deletion marks at) ds m d e ∙ ap (λ b. list_any (is_marked_deletion marks at) (take m ds) || (b && has_mark marks d.by)) t ∙ or_false (list_any (is_marked_deletion marks at) (take m ds))
           ∙ ih (omega (arith, le)) g
 
-      go : (m ≤ length ds → last_below ds m at ≡ None → list_any (is_hit marks at) (take m ds) ≡ false) → (v : Option Deletion) → slice_get ds m ≡ v → cond (is_of_place v at) (Some m) (last_below ds m at) ≡ None → list_any (is_hit marks at) (take (suc m) ds) ≡ false
+      go : (m ≤ length ds → last_below ds m at ≡ None → list_any (is_marked_deletion marks at) (take m ds) ≡ false) → (v : Option RowDeletion) → slice_get ds m ≡ v → cond (is_of_place v at) (Some m) (last_below ds m at) ≡ None → list_any (is_marked_deletion marks at) (take (suc m) ds) ≡ false
       go ih None e g = absurd (let l : length ds ≤ m = none_here m (omega (arith, le)) e in omega (arith, l, le))
       go ih (Some d) e g = test ih d e (is_same_place d.at at) refl g
 
@@ -115,20 +115,20 @@ get_end [] y = refl
 get_end (x ∷ xs) y = get_end xs y
 
 -- deletions at the end change no link that is there
-pub last_append : (ds more : List Deletion) (m : ℕ) (at : At) → m ≤ length ds → last_below (ds ++ more) m at ≡ last_below ds m at
+pub last_append : (ds more : List RowDeletion) (m : ℕ) (at : At) → m ≤ length ds → last_below (ds ++ more) m at ≡ last_below ds m at
 last_append ds more zero at le = refl
 last_append ds more (suc m) at le =
     ap (λ v. cond (is_of_place v at) (Some m) (last_below (ds ++ more) m at)) (get_append ds more m (omega arith))
     ∙ ap (λ t. cond (is_of_place (slice_get ds m) at) (Some m) t) (last_append ds more m at (omega arith))
 
 -- a deletion at the end is the last one of its place, and of no other
-pub last_new : (ds : List Deletion) (d : Deletion) (at : At) (n : ℕ) → n ≡ length ds → d.at ≡ at → last_below (ds ++ d ∷ []) (suc n) at ≡ Some n
+pub last_new : (ds : List RowDeletion) (d : RowDeletion) (at : At) (n : ℕ) → n ≡ length ds → d.at ≡ at → last_below (ds ++ d ∷ []) (suc n) at ≡ Some n
 last_new ds d at n s e =
     subst (λ (k : ℕ). last_below (ds ++ d ∷ []) (suc k) at ≡ Some k) (sym s)
     (ap (λ v. cond (is_of_place v at) (Some (length ds)) (last_below (ds ++ d ∷ []) (length ds) at)) (get_end ds d)
     ∙ ap (λ b. cond b (Some (length ds)) (last_below (ds ++ d ∷ []) (length ds) at)) (subst (λ (t : At). is_same_place d.at t ≡ true) e (same_place_itself d.at)))
 
-pub last_other : (ds : List Deletion) (d : Deletion) (at : At) (n : ℕ) → n ≡ length ds → ((d.at ≡ at) → ⊥) → last_below (ds ++ d ∷ []) (suc n) at ≡ last_below ds n at
+pub last_other : (ds : List RowDeletion) (d : RowDeletion) (at : At) (n : ℕ) → n ≡ length ds → ((d.at ≡ at) → ⊥) → last_below (ds ++ d ∷ []) (suc n) at ≡ last_below ds n at
 last_other ds d at n s ne =
     subst (λ (k : ℕ). last_below (ds ++ d ∷ []) (suc k) at ≡ last_below ds k at) (sym s)
     (ap (λ v. cond (is_of_place v at) (Some (length ds)) (last_below (ds ++ d ∷ []) (length ds) at)) (get_end ds d)
@@ -136,11 +136,11 @@ last_other ds d at n s ne =
     ∙ last_append ds (d ∷ []) (length ds) at (omega arith))
 
 -- a place that no deletion is of has no last one
-pub last_absent : (ds : List Deletion) (m : ℕ) (at : At) → ((n : ℕ) (d : Deletion) → slice_get ds n ≡ Some d → (d.at ≡ at) → ⊥) → last_below ds m at ≡ None
+pub last_absent : (ds : List RowDeletion) (m : ℕ) (at : At) → ((n : ℕ) (d : RowDeletion) → slice_get ds n ≡ Some d → (d.at ≡ at) → ⊥) → last_below ds m at ≡ None
 last_absent ds zero at lacks = refl
 last_absent ds (suc m) at lacks = go (last_absent ds m at lacks) (slice_get ds m) refl
   where
-    go : last_below ds m at ≡ None → (v : Option Deletion) → slice_get ds m ≡ v → cond (is_of_place v at) (Some m) (last_below ds m at) ≡ None
+    go : last_below ds m at ≡ None → (v : Option RowDeletion) → slice_get ds m ≡ v → cond (is_of_place v at) (Some m) (last_below ds m at) ≡ None
     go ih None e = ih
     go ih (Some d) e = ap (λ b. cond b (Some m) (last_below ds m at)) (other_place_false d.at at (lacks m d e)) ∙ ih
 
@@ -149,7 +149,7 @@ pub record Walks (marks : List Bool) (xs : List Removal) (at : At) (link : Optio
   pub front : ℕ
   pub within : front ≤ length xs
   pub leads : link ≡ last_below (deletions_in xs) front at
-  pub decides : is_deleted_by marks (deletions_in xs) at ≡ list_any (is_hit marks at) (take front (deletions_in xs))
+  pub decides : is_deleted_by marks (deletions_in xs) at ≡ list_any (is_marked_deletion marks at) (take front (deletions_in xs))
 
 size_of : (xs : List Removal) → length (deletions_in xs) ≡ length xs
 size_of xs = length-map xs deletion_of
@@ -159,7 +159,7 @@ walk_begins marks xs at link h = record {
   front = length xs;
   within = omega arith;
   leads = h;
-  decides = ap (list_any (is_hit marks at)) (sym (take_all (length xs) (deletions_in xs) (omega (arith, size_of xs))));
+  decides = ap (list_any (is_marked_deletion marks at)) (sym (take_all (length xs) (deletions_in xs) (omega (arith, size_of xs))));
 }
 
 pub walk_ends : (marks : List Bool) (xs : List Removal) (at : At) (link : Option ℕ) → Walks marks xs at link → link ≡ None → is_deleted_by marks (deletions_in xs) at ≡ false
@@ -168,7 +168,7 @@ walk_ends marks xs at link w h = w.decides ∙ last_none marks (deletions_in xs)
 -- one step along a link, over the deletion x
 pub record Steps (marks : List Bool) (xs : List Removal) (at : At) (n : ℕ) (x : Removal) : Type 0 where
   pub place : x.at ≡ at
-  pub hit : has_mark marks x.by ≡ true → is_deleted_by marks (deletions_in xs) at ≡ true
+  pub deleted : has_mark marks x.by ≡ true → is_deleted_by marks (deletions_in xs) at ≡ true
   pub goes_on : has_mark marks x.by ≡ false → Walks marks xs at x.earlier
   pub falls : reach x.earlier < suc n
 
@@ -176,7 +176,7 @@ pub link_within : (marks : List Bool) (xs : List Removal) (at : At) (link : Opti
 link_within marks xs at link n w h =
     let l = last_some marks (deletions_in xs) at w.front n (omega (arith, w.within, size_of xs)) (sym w.leads ∙ h) in omega (arith, l.below, w.within)
 
-reach_below : (ds : List Deletion) (m : ℕ) (at : At) → reach (last_below ds m at) ≤ m
+reach_below : (ds : List RowDeletion) (m : ℕ) (at : At) → reach (last_below ds m at) ≤ m
 reach_below ds zero at = omega arith
 reach_below ds (suc m) at = go (is_of_place (slice_get ds m) at) (reach_below ds m at)
   where
@@ -187,12 +187,12 @@ reach_below ds (suc m) at = go (is_of_place (slice_get ds m) at) (reach_below ds
 pub walk_steps : (marks : List Bool) (xs : List Removal) (at : At) (link : Option ℕ) (n : ℕ) (x : Removal) → AreLinked xs → Walks marks xs at link → link ≡ Some n → slice_get xs n ≡ Some x → Steps marks xs at n x
 walk_steps marks xs at link n x linked w h here = record {
   place = same_at;
-  hit = λ t. w.decides ∙ l.rest ∙ ap (λ b. b || list_any (is_hit marks at) (take n (deletions_in xs))) (by ∙ t);
+  deleted = λ t. w.decides ∙ l.rest ∙ ap (λ b. b || list_any (is_marked_deletion marks at) (take n (deletions_in xs))) (by ∙ t);
   goes_on = λ f. record {
     front = n;
     within = omega (arith, l.below, w.within);
     leads = linked.earlier n x here ∙ ap (last_below (deletions_in xs) n) same_at;
-    decides = w.decides ∙ l.rest ∙ ap (λ b. b || list_any (is_hit marks at) (take n (deletions_in xs))) (by ∙ f);
+    decides = w.decides ∙ l.rest ∙ ap (λ b. b || list_any (is_marked_deletion marks at) (take n (deletions_in xs))) (by ∙ f);
   };
   falls = subst (λ (o : Option ℕ). reach o < suc n) (sym (linked.earlier n x here)) (omega (arith, reach_below (deletions_in xs) n x.at));
 }
@@ -207,10 +207,10 @@ walk_steps marks xs at link n x linked w h here = record {
     same = cc seen
 
     same_at : x.at ≡ at
-    same_at = sym (ap (λ (d : Deletion). d.at) same) ∙ l.same
+    same_at = sym (ap (λ (d : RowDeletion). d.at) same) ∙ l.same
 
     by : has_mark marks l.deletion.by ≡ has_mark marks x.by
-    by = ap (λ (d : Deletion). has_mark marks d.by) same
+    by = ap (λ (d : RowDeletion). has_mark marks d.by) same
 
 -- the same, of what is read at the link's number
 pub walk_steps_at : (marks : List Bool) (xs : List Removal) (at : At) (link : Option ℕ) (n : ℕ) (none : Removal) → AreLinked xs → Walks marks xs at link → link ≡ Some n → Steps marks xs at n (get_or xs n none)

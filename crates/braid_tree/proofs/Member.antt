@@ -1,7 +1,21 @@
 -- What is known of the members of a list.
-use Rattle.std.proofs.Common.{◌≡◌, List, [], ◌∷◌, ◌++◌, refl, subst, inl, inr, ◌⊎◌}
-use Rattle.std.specs.List.{AllByRecursion}
+use Rattle.std.proofs.Common.{◌≡◌, ℕ, ◌<◌, List, [], ◌∷◌, ◌++◌, length, get_or, zero, suc, arith, refl, subst, inl, inr, ◌⊎◌}
+use Rattle.std.specs.List.{AllByRecursion, Contains}
 use Rattle.braid_tree.specs.Trees.{Member}
+
+-- membership by cases on the list, which proofs split, is membership by number, as clauses say it
+pub contains_member : {A : Type 0} (xs : List A) (x : A) → Contains xs x → Member x xs
+contains_member {A = A} xs x (k, l, e) = go xs k l e
+  where
+    go : (ys : List A) (k : ℕ) → k < length ys → get_or ys k x ≡ x → Member x ys
+    go [] k l e = absurd (omega arith)
+    go (y ∷ ys) zero l e = inl e
+    go (y ∷ ys) (suc k) l e = inr (go ys k (omega arith) e)
+
+pub member_contains : {A : Type 0} (xs : List A) (x : A) → Member x xs → Contains xs x
+member_contains [] x m = absurd m
+member_contains (y ∷ ys) x (inl e) = (zero, omega arith, e)
+member_contains (y ∷ ys) x (inr m) = let c = member_contains ys x m in (suc c.0, omega (arith, c.1), c.2)
 
 pub all_member : {A : Type 0} (P : A → Type 0) (x : A) (xs : List A) → AllByRecursion P xs → Member x xs → P x
 all_member P x [] all m = absurd m

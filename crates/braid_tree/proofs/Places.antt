@@ -3,7 +3,7 @@ use Rattle.std.proofs.Common.{◌≡◌, ℕ, ◌+◌, ◌<◌, ◌≤◌, List,
 use Rattle.std.proofs.lemmas.List.{take-append-drop}
 use Rattle.std.proofs.lemmas.List.Elements.{All-append, All-take, All-drop, All-nil, All-cons, All-same}
 use Rattle.braid_tree.specs.declared.at.At.{At}
-use Rattle.braid_tree.specs.Rows.{Row, Stamp, HasPlace, KeepsPlaces, IsNextOrdinal, IsKnownRow, AreKnown, PutsRun, run_rows, place}
+use Rattle.braid_tree.specs.Rows.{Row, Stamp, HasPlace, KeepsPlaces, AreNewOrdinals, IsKnownRow, AreKnown, PutsRun, run_rows, place}
 use Rattle.braid_tree.specs.Inside.{IsPlaceOf, HaveOwnPlaces}
 
 pub place_number : (rows : List Row) (at : At) → HasPlace rows at → (k : ℕ) × (k < length rows) × IsPlaceOf rows at k
@@ -51,7 +51,7 @@ places_put rows new version after n text (p, l, e) at h = elim (place_cases (tak
 ]
 
 -- the next ordinal of the version is that behind the run
-pub next_put : (rows new : List Row) (version : ℕ) (after : Option At) (n : ℕ) (text : List ℕ) → PutsRun rows new version after n text → IsNextOrdinal rows version n → IsNextOrdinal new version (n + length text)
+pub next_put : (rows new : List Row) (version : ℕ) (after : Option At) (n : ℕ) (text : List ℕ) → PutsRun rows new version after n text → AreNewOrdinals rows version n → AreNewOrdinals new version (n + length text)
 next_put rows new version after n text put next m le h = elim (places_put rows new version after n text put (place version m) h) [
   | inl old ↦ next m (omega (arith, le)) old
   | inr (v, lo, hi) ↦ absurd (let below : m < n + length text = hi in omega (arith, below, le))
@@ -93,7 +93,7 @@ own_run version origin n (c ∷ cs) = (
 )
 
 -- a run at the next ordinal leaves each place one row
-pub own_put : (rows new : List Row) (version : ℕ) (after : Option At) (n : ℕ) (text : List ℕ) → HaveOwnPlaces rows → IsNextOrdinal rows version n → PutsRun rows new version after n text → HaveOwnPlaces new
+pub own_put : (rows new : List Row) (version : ℕ) (after : Option At) (n : ℕ) (text : List ℕ) → HaveOwnPlaces rows → AreNewOrdinals rows version n → PutsRun rows new version after n text → HaveOwnPlaces new
 own_put rows new version after n text own next (p, l, e) = subst HaveOwnPlaces (sym e) (
     own_append (take p rows) (run_rows version after n text ++ drop p rows) parts.0
     (own_append (run_rows version after n text) (drop p rows) (own_run version after n text) parts.1 (λ at m h. fresh at m (place_right (take p rows) (drop p rows) at h)))

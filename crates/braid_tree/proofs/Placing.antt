@@ -4,7 +4,7 @@ use Rattle.std.specs.List.{AllByRecursion}
 use Rattle.std.specs.Ordering.{is_lt}
 use Rattle.braid_tree.specs.Paths.{path_cmp, PathBefore}
 use Rattle.braid_tree.specs.Nodes.{Node, path_of, Before, IsReading, with_node}
-use Rattle.braid_tree.specs.Trees.{Member, RisesToKey, IsWithout, AreAbove, StartsBelow}
+use Rattle.braid_tree.specs.Trees.{Member, RisesToKey, IsWithout, AreGreater, StartsSmaller}
 use Rattle.braid_tree.proofs.Member.{all_member, last_same}
 use Rattle.braid_tree.proofs.Order.{IsStrict, irrefl, asym, tri, paths_strict}
 use Rattle.braid_tree.proofs.Landing.{first_behind, passed}
@@ -64,7 +64,7 @@ module _ {K : Type 0} (R : K → K → Ordering) (o : IsStrict R) (S : List K �
 
   -- The nodes behind the origin with greater keys, and then one with a smaller key: the new node goes between.
   pub lands : (front tail : List (Node K)) → IsReading R (front ++ tail) → AllByRecursion (IsBehind R S x) (front ++ tail) → IsCovered (front ++ tail)
-      → AreAbove R x.key front → StartsBelow R x.key tail → with_node R x (front ++ tail) ≡ front ++ x ∷ tail
+      → AreGreater R x.key front → StartsSmaller R x.key tail → with_node R x (front ++ tail) ≡ front ++ x ∷ tail
   lands [] [] read behind cover greater below = refl
   lands [] (y ∷ tail) read behind cover greater below =
       with_node_here R o x y tail (stands_first y behind.0 below)

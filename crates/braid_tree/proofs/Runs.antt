@@ -3,7 +3,7 @@ use Rattle.std.proofs.Common.{◌≡◌, ℕ, ◌+◌, ◌≤◌, List, [], ◌�
 use Rattle.std.specs.List.{AllByRecursion}
 use Rattle.braid_tree.specs.Paths.{path_cmp, PathBefore}
 use Rattle.braid_tree.specs.Nodes.{Node, path_of, Before, IsReading, with_node, with_nodes, run}
-use Rattle.braid_tree.specs.Trees.{Member, HasPath, RisesToKey, IsWithout, IsTree, EndsAt, AreAbove, StartsBelow}
+use Rattle.braid_tree.specs.Trees.{Member, HasPath, RisesToKey, IsWithout, IsTree, EndsAt, AreGreater, StartsSmaller}
 use Rattle.braid_tree.proofs.Member.{all_member, all_from_members, member_append_left, member_append_right, member_append_cases}
 use Rattle.braid_tree.proofs.Order.{IsStrict, below_trans, paths_strict, before_cons, before_head, before_tail}
 use Rattle.braid_tree.proofs.Landing.{before_below, before_root, root_before}
@@ -114,7 +114,7 @@ module _ {K : Type 0} (R : K → K → Ordering) (o : IsStrict R) where
 
   -- A new node behind its origin, past the nodes with greater keys, is put in order.
   pub node_lands : (x : Node K) (front over tail : List (Node K)) → IsTree R (front ++ (over ++ tail)) → RisesToKey R x → AllByRecursion (IsWithout x.key) (front ++ (over ++ tail))
-      → EndsAt front x.above → AreAbove R x.key over → StartsBelow R x.key tail
+      → EndsAt front x.above → AreGreater R x.key over → StartsSmaller R x.key tail
       → with_node R x (front ++ (over ++ tail)) ≡ front ++ (over ++ x ∷ tail)
   node_lands x front over tail tree rising fresh ends greater below =
       with_node_front R o x front (over ++ tail) fronts

@@ -2,7 +2,7 @@
 use Rattle.std.specs.Prelude.{◌≡◌, ℕ, zero, suc, ◌+◌, ◌-◌, ◌<◌, ◌^◌, List, [], ◌∷◌, Bool, false, Option, Some, None, All, if◌then◌else◌, length, map, min, slice_get, IsSomeAnd, IfSome}
 use Rattle.std.specs.declared.cmp.Ordering.TheVariants.{Less}
 use Rattle.braid_tree.specs.Keys.{key_cmp}
-use Rattle.braid_tree.specs.Rows.{Stamp, Row, Deletion, Room, HasPlace, AreKnown, key_at, place}
+use Rattle.braid_tree.specs.Rows.{Stamp, Row, RowDeletion, DocumentRoom, HasPlace, AreKnown, key_at, place}
 use Rattle.braid_tree.specs.Seen.{is_same_place}
 use Rattle.braid_tree.specs.declared.at.At.{At}
 use Rattle.braid_tree.specs.declared.version.Version.{Version}
@@ -13,8 +13,8 @@ use Rattle.braid_tree.specs.declared.removal.Removal.{Removal}
 pub record PlainView : Type 0 where
   pub stamps : List Stamp
   pub rows : List Row
-  pub deletions : List Deletion
-  pub room : Room
+  pub deletions : List RowDeletion
+  pub room : DocumentRoom
 
 abbrev pub stamp_of : Version → Stamp
 stamp_of v = record { id = v.id; level = v.level }
@@ -28,10 +28,10 @@ row_of r = record { at = r.at; char = r.character; origin = r.origin }
 abbrev pub rows_in : List PlainRow → List Row
 rows_in rows = map row_of rows
 
-abbrev pub deletion_of : Removal → Deletion
+abbrev pub deletion_of : Removal → RowDeletion
 deletion_of x = record { at = x.at; by = x.by }
 
-abbrev pub deletions_in : List Removal → List Deletion
+abbrev pub deletions_in : List Removal → List RowDeletion
 deletions_in xs = map deletion_of xs
 
 -- how many more fit into this capacity and are still counted by 32 bits
@@ -57,12 +57,12 @@ new_rows version origin n (c ∷ cs) =
     record { at = place version n; character = c; origin = origin; newest = None } ∷ new_rows version (Some (place version n)) (n + 1) cs
 
 -- a deletion that is there is one of the place
-abbrev pub is_of_place : Option Deletion → At → Bool
+abbrev pub is_of_place : Option RowDeletion → At → Bool
 is_of_place None at = false
 is_of_place (Some d) at = is_same_place d.at at
 
 -- the number of the last of the first n deletions that is one of the place
-abbrev pub last_below : List Deletion → ℕ → At → Option ℕ
+abbrev pub last_below : List RowDeletion → ℕ → At → Option ℕ
 last_below ds zero at = None
 last_below ds (suc n) at = if is_of_place (slice_get ds n) at then Some n else last_below ds n at
 
@@ -83,7 +83,7 @@ HaveOwnPlaces (r ∷ rows) = ¬ (HasPlace rows r.at) × HaveOwnPlaces rows
 pub record IsKept (vs : List Version) (rows : List PlainRow) (xs : List Removal) : Type 0 where
   pub known : AreKnown (stamps_in vs) (rows_in rows)
   pub own_places : HaveOwnPlaces (rows_in rows)
-  pub listed : All (λ (d : Deletion). HasPlace (rows_in rows) d.at) (deletions_in xs)
+  pub listed : All (λ (d : RowDeletion). HasPlace (rows_in rows) d.at) (deletions_in xs)
   pub linked : AreLinked xs
   pub newest : All (IsNewest xs) rows
   pub few_versions : length vs < 2 ^ 32

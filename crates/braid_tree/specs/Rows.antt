@@ -3,7 +3,7 @@ use Rattle.std.specs.Prelude.{◌≡◌, ◌⊎◌, ℕ, ◌+◌, ◌-◌, ◌<�
 use Rattle.std.specs.Option.{option_map}
 use Rattle.braid_tree.specs.Keys.{Key, key_cmp}
 use Rattle.braid_tree.specs.Nodes.{Node, path_of, with_nodes, run}
-use Rattle.braid_tree.specs.Trees.{Member, IsTree, AreBelow, AreNewKeys}
+use Rattle.braid_tree.specs.Trees.{Member, IsTree, AreSmaller, AreNewKeys}
 use Rattle.braid_tree.specs.Elements.{Element, element_of}
 use Rattle.braid_tree.specs.declared.at.At.{At}
 
@@ -19,12 +19,12 @@ pub record Row : Type 0 where
   pub origin : Option At
 
 -- that the version with this arrival number deletes the element at a place
-pub record Deletion : Type 0 where
+pub record RowDeletion : Type 0 where
   pub at : At
   pub by : ℕ
 
 -- how many versions, elements and deletions more there is room for
-pub record Room : Type 0 where
+pub record DocumentRoom : Type 0 where
   pub versions : ℕ
   pub elements : ℕ
   pub deletions : ℕ
@@ -63,9 +63,9 @@ HasPlace (r ∷ rows) at = (r.at ≡ at) ⊎ HasPlace rows at
 abbrev pub KeepsPlaces : List Row → List Row → Type 0
 KeepsPlaces old new = (at : At) → HasPlace old at → HasPlace new at
 
--- no row is that of this ordinal of a version, or of a later one
-abbrev pub IsNextOrdinal : List Row → ℕ → ℕ → Type 0
-IsNextOrdinal rows version n = (m : ℕ) → n ≤ m → ¬ (HasPlace rows (place version m))
+-- this ordinal of a version and all later ones are new: no row has such a place
+abbrev pub AreNewOrdinals : List Row → ℕ → ℕ → Type 0
+AreNewOrdinals rows version n = (m : ℕ) → n ≤ m → ¬ (HasPlace rows (place version m))
 
 -- the versions of a row's place and of its origin are there
 pub record IsKnownRow (vs : List Stamp) (row : Row) : Type 0 where
@@ -80,6 +80,10 @@ abbrev pub PutsRun : List Row → List Row → ℕ → Option At → ℕ → Lis
 PutsRun old new version after n text =
     (p : ℕ) × (p ≤ length old) × (new ≡ take p old ++ (run_rows version after n text ++ drop p old))
 
+-- the new list is the old one with x put somewhere between, or at an end
+abbrev pub PutsOne : {A : Type 0} → List A → A → List A → Type 0
+PutsOne {A} old x new = (front : List A) × (back : List A) × (old ≡ front ++ back) × (new ≡ front ++ x ∷ back)
+
 -- the place is that of the node at the end of this path; where there is none, the path is the root's
 abbrev pub IsOrigin : List Stamp → List (Node Key) → Option At → List Key → Type 0
 IsOrigin vs es after above =
@@ -91,7 +95,7 @@ pub record Inserts (vs : List Stamp) (rows : List Row) (es : List (Node Key)) (a
   pub tree : IsTree key_cmp es
   pub listed : map (element_at vs) rows ≡ map element_of es
   pub origin : IsOrigin vs es after above
-  pub up : AreBelow key_cmp (next_key vs n) above
+  pub up : AreSmaller key_cmp (next_key vs n) above
   pub new : AreNewKeys (next_key vs) n es
 
 -- whatever tree the old rows list, the new ones list that tree with the run in its order
@@ -101,13 +105,13 @@ ListsWithRun vs old new after n text =
     → map (element_at vs) new ≡ map element_of (with_nodes key_cmp (run (next_key vs) above n text) es)
 
 -- room for this many versions, elements and deletions is there
-pub record HasRoom (room : Room) (versions elements deletions : ℕ) : Type 0 where
+pub record HasRoomFor (room : DocumentRoom) (versions elements deletions : ℕ) : Type 0 where
   pub versions_fit : versions ≤ room.versions
   pub elements_fit : elements ≤ room.elements
   pub deletions_fit : deletions ≤ room.deletions
 
 -- of the old room at most this much is gone
-pub record Spends (old new : Room) (versions elements deletions : ℕ) : Type 0 where
+pub record Spends (old new : DocumentRoom) (versions elements deletions : ℕ) : Type 0 where
   pub versions_left : old.versions ≤ new.versions + versions
   pub elements_left : old.elements ≤ new.elements + elements
   pub deletions_left : old.deletions ≤ new.deletions + deletions

@@ -5,7 +5,7 @@ use Rattle.std.specs.declared.cmp.Ordering.TheVariants.{Less}
 use Rattle.std.specs.List.{AllByRecursion}
 use Rattle.braid_tree.specs.Nodes.{Node, path_of, IsReading}
 
--- x is one of the list
+-- x is one of the list: what `Contains` says by number, said by cases on the list
 abbrev pub Member : {A : Type 0} → A → List A → Type 0
 Member x [] = ⊥
 Member x (y ∷ ys) = (y ≡ x) ⊎ Member x ys
@@ -15,12 +15,12 @@ abbrev pub HasPath : {K : Type 0} → List (Node K) → List K → Type 0
 HasPath {K} d z = (y : Node K) × Member y d × (path_of y ≡ z)
 
 -- each key of a path is smaller than k
-abbrev pub AreBelow : {K : Type 0} → (K → K → Ordering) → K → List K → Type 0
-AreBelow {K} R k p = AllByRecursion (λ (b : K). R b k ≡ Less) p
+abbrev pub AreSmaller : {K : Type 0} → (K → K → Ordering) → K → List K → Type 0
+AreSmaller {K} R k p = AllByRecursion (λ (b : K). R b k ≡ Less) p
 
 -- each key above the node is smaller than its own
 abbrev pub RisesToKey : {K : Type 0} → (K → K → Ordering) → Node K → Type 0
-RisesToKey R y = AreBelow R y.key y.above
+RisesToKey R y = AreSmaller R y.key y.above
 
 -- nothing on the node's path is the key k
 abbrev pub IsWithout : {K : Type 0} → K → Node K → Type 0
@@ -45,21 +45,21 @@ EndsAt {K} front above =
     ⊎ ((before : List (Node K)) × (origin : Node K) × (front ≡ before ++ origin ∷ []) × (path_of origin ≡ above))
 
 -- each node of the list has a greater key than k
-abbrev pub AreAbove : {K : Type 0} → (K → K → Ordering) → K → List (Node K) → Type 0
-AreAbove {K} R k ys = AllByRecursion (λ (y : Node K). R k y.key ≡ Less) ys
+abbrev pub AreGreater : {K : Type 0} → (K → K → Ordering) → K → List (Node K) → Type 0
+AreGreater {K} R k ys = AllByRecursion (λ (y : Node K). R k y.key ≡ Less) ys
 
 -- the first node, if there is one, has a smaller key than k
-abbrev pub StartsBelow : {K : Type 0} → (K → K → Ordering) → K → List (Node K) → Type 0
-StartsBelow R k [] = Unit {0}
-StartsBelow R k (y ∷ ys) = R y.key k ≡ Less
+abbrev pub StartsSmaller : {K : Type 0} → (K → K → Ordering) → K → List (Node K) → Type 0
+StartsSmaller R k [] = Unit {0}
+StartsSmaller R k (y ∷ ys) = R y.key k ≡ Less
 
 -- a tree in three parts for a new key below this path: up to the origin, the neighbours with greater keys, and the rest,
 -- which begins with a smaller key
 pub record IsCutFor {K : Type 0} (R : K → K → Ordering) (above : List K) (k : K) (front over tail : List (Node K)) : Type 0 where
   pub tree : IsTree R (front ++ (over ++ tail))
   pub origin : EndsAt front above
-  pub greater : AreAbove R k over
-  pub smaller : StartsBelow R k tail
+  pub greater : AreGreater R k over
+  pub smaller : StartsSmaller R k tail
 
 -- a greater number has the greater key
 abbrev pub AreRisingKeys : {K : Type 0} → (K → K → Ordering) → (ℕ → K) → Type 0

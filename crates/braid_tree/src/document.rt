@@ -1,6 +1,6 @@
-ghost use Rattle.std.specs.Prelude.{◌≡◌, ◌+◌, ◌-◌, ◌<◌, ◌≤◌, ◌^◌, ◌++◌, ◌∷◌, [], List, IfOk, OnOk, MatchOption, length, map, slice_get};
+ghost use Rattle.std.specs.Prelude.{◌≡◌, ◌+◌, ◌-◌, ◌<◌, ◌≤◌, ◌^◌, ◌++◌, ◌∷◌, [], List, IfOk, OnOk, MatchOption, Contains, length, map, slice_get};
 ghost use Rattle.std.specs.Option.{option_map};
-ghost use Rattle.braid_tree.specs.Rows.{Stamp, Row, Deletion, Room, HasPlace, IsNextOrdinal, AreKnown, PutsRun, ListsWithRun, HasRoom, Spends};
+ghost use Rattle.braid_tree.specs.Rows.{Stamp, Row, RowDeletion, DocumentRoom, HasPlace, AreNewOrdinals, AreKnown, PutsRun, PutsOne, ListsWithRun, HasRoomFor, Spends};
 ghost use Rattle.braid_tree.specs.Seen.{seen_rows, place_in, char_in};
 
 use crate::at::At;
@@ -21,13 +21,14 @@ pub trait Document: Drop {
     /// The elements, in reading order.
     ghost rows: { Self → List Row };
 
-    /// What deletes them, in order of arrival.
-    ghost removed: { Self → List Deletion };
+    /// What deletes them, in some order.
+    ghost removed: { Self → List RowDeletion };
 
     /// How much room is left.
-    ghost room: { Self → Room };
+    ghost room: { Self → DocumentRoom };
 
-    /// Makes room for this many more versions, elements and deletions.
+    /// Makes room for this many more versions, elements and deletions. Each of them and what is there come to less than
+    /// 2^32 together.
     ///
     /// Errors: `Memory` where there was none; versions, elements and deletions are then as before, and the room is
     /// at least what it was.
@@ -35,15 +36,16 @@ pub trait Document: Drop {
         requires few_versions { length (stamps self.old) + versions < 2 ^ 32 }
         requires few_elements { length (rows self.old) + elements < 2 ^ 32 }
         requires few_deletions { length (removed self.old) + deletions < 2 ^ 32 }
-        ensures ok { OnOk result (HasRoom (room self.new) versions elements deletions) }
+        ensures ok { OnOk result (HasRoomFor (room self.new) versions elements deletions) }
         ensures room { Spends (room self.old) (room self.new) 0 0 0 }
         ensures stamps { stamps self.new ≡ stamps self.old }
         ensures rows { rows self.new ≡ rows self.old }
         ensures deletions { removed self.new ≡ removed self.old };
 
-    /// Begins a version of this level, whose identifier is new.
+    /// Begins a version with this identifier and level. Nothing is asked of the identifier; `insert_run` says where a
+    /// run goes only where no other version has it.
     fn begin(&mut self, id: Id, level: u32)
-        requires roomy { HasRoom (room self.old) 1 0 0 }
+        requires roomy { HasRoomFor (room self.old) 1 0 0 }
         ensures stamps { stamps self.new ≡ stamps self.old ++ record { id = id; level = level } ∷ [] }
         ensures rows { rows self.new ≡ rows self.old }
         ensures deletions { removed self.new ≡ removed self.old }
@@ -53,14 +55,18 @@ pub trait Document: Drop {
     /// Puts a run of characters of the version begun last behind the element `after`, or at the front of the text:
     /// past the neighbours with greater keys, as the reading order of the whole tree wants it.
     ///
-    /// `ordinal` is the number of the first character in its version. Where the rows list a tree, where the
-    /// version's level is above those of the origin and of all that the origin stands below, and where its
-    /// identifier is no other version's, the new rows list that tree with the run in its order.
+    /// `ordinal` is the number of the first character in its version. A version was begun, `after` is listed, the
+    /// version has no element of this ordinal or a later one yet, and `ordinal` and the text's length together are
+    /// below 2^32.
+    ///
+    /// Where the rows list a tree, where the version's level is above those of the origin and of all that the origin
+    /// stands below, and where its identifier is no other version's, the new rows list that tree with the run in its
+    /// order.
     fn insert_run(&mut self, after: Option<At>, text: &[char], ordinal: u32)
         requires begun { 0 < length (stamps self.old) }
         requires there { MatchOption after (Unit {0}) (HasPlace (rows self.old)) }
-        requires next { IsNextOrdinal (rows self.old) (length (stamps self.old) - 1) ordinal }
-        requires roomy { HasRoom (room self.old) 0 (length text.now) 0 }
+        requires ordinals { AreNewOrdinals (rows self.old) (length (stamps self.old) - 1) ordinal }
+        requires roomy { HasRoomFor (room self.old) 0 (length text.now) 0 }
         requires fits { ordinal + length text.now < 2 ^ 32 }
         ensures stamps { stamps self.new ≡ stamps self.old }
         ensures put { PutsRun (rows self.old) (rows self.new) (length (stamps self.old) - 1) after ordinal text.now }
@@ -70,11 +76,14 @@ pub trait Document: Drop {
         ensures known { AreKnown (stamps self.new) (rows self.new) };
 
     /// Notes that the version begun last deletes an element. It stays listed, and others may delete it too.
+    ///
+    /// A version was begun, `at` is listed, and this version has not deleted it before.
     fn delete(&mut self, at: At)
         requires begun { 0 < length (stamps self.old) }
         requires there { HasPlace (rows self.old) at }
-        requires roomy { HasRoom (room self.old) 0 0 1 }
-        ensures deletions { removed self.new ≡ removed self.old ++ record { at = at; by = length (stamps self.old) - 1 } ∷ [] }
+        requires once { ¬ (Contains (removed self.old) (record { at = at; by = length (stamps self.old) - 1 })) }
+        requires roomy { HasRoomFor (room self.old) 0 0 1 }
+        ensures deletions { PutsOne (removed self.old) (record { at = at; by = length (stamps self.old) - 1 }) (removed self.new) }
         ensures stamps { stamps self.new ≡ stamps self.old }
         ensures rows { rows self.new ≡ rows self.old }
         ensures room { Spends (room self.old) (room self.new) 0 0 1 };
@@ -83,7 +92,8 @@ pub trait Document: Drop {
     fn len(&self, marks: &Marks) -> u32
         ensures len { result ≡ length (seen_rows marks.now (removed self.now) (rows self.now)) };
 
-    /// The place of element number `n`, counted from 0, of those that the marked versions see.
+    /// The place of element number `n`, counted from 0, of those that the marked versions see. None where they see no
+    /// more than `n`.
     fn visible_at(&self, marks: &Marks, n: u32) -> Option<At>
         ensures value { result ≡ option_map place_in (slice_get (seen_rows marks.now (removed self.now) (rows self.now)) n) };
 

@@ -1,18 +1,19 @@
 //! Laws of the reading order and of what marked versions see, each the contract of a function that does nothing.
 
-ghost use Rattle.std.specs.Prelude.{◌≡◌, ◌↔◌, ◌⊎◌, ◌++◌, ◌∷◌, [], ◌+◌, ℕ, Bool, List, Option, Some, None, MatchOption, IsTrue, codes, map};
+ghost use Rattle.std.specs.Prelude.{◌≡◌, ◌↔◌, ◌⊎◌, ◌++◌, ◌∷◌, [], ◌+◌, ℕ, Bool, List, Option, Some, None, MatchOption, IsTrue, Contains, codes, length, map};
 ghost use Rattle.std.specs.List.{AllByRecursion};
+ghost use Rattle.std.specs.List.Sorted.{IsPermutation};
 ghost use Rattle.std.specs.declared.cmp.Ordering.TheVariants.{Less};
 ghost use Rattle.braid_ids.specs.MarkSets.{IsMarked};
 ghost use Rattle.braid_tree.specs.declared.at.At.{At};
 ghost use Rattle.braid_tree.specs.Keys.{Key, key_cmp};
 ghost use Rattle.braid_tree.specs.Paths.{PathBefore};
 ghost use Rattle.braid_tree.specs.Nodes.{Node, path_of, Before, IsReading, with_node, with_nodes, run};
-ghost use Rattle.braid_tree.specs.Trees.{Member, HasPath, IsTree, AreBelow, AreRisingKeys, AreNewKeys, IsWithout, RisesToKey, IsCutFor};
+ghost use Rattle.braid_tree.specs.Trees.{Member, HasPath, IsTree, AreSmaller, AreRisingKeys, AreNewKeys, IsWithout, RisesToKey, IsCutFor};
 ghost use Rattle.braid_tree.specs.Elements.{element_of, last_key, IsListedOrigin};
-ghost use Rattle.braid_tree.specs.Rows.{Stamp, Row, Deletion, Inserts, next_key};
-ghost use Rattle.braid_tree.specs.Seen.{is_deleted_by, is_seen_by, Deletes};
-ghost use Rattle.braid_tree.specs.Worked.{x_run, p_run, q_run, r_run, text_after};
+ghost use Rattle.braid_tree.specs.Rows.{Stamp, Row, RowDeletion, PutsOne, Inserts, next_key};
+ghost use Rattle.braid_tree.specs.Seen.{is_deleted_by, is_seen_by, seen_rows, Deletes};
+ghost use Rattle.braid_tree.specs.Worked.{x_run, p_run, q_run, r_run, text_of_runs};
 
 /// Of two nodes one stands before the other, or they have one path; never both, and never in a circle.
 pub fn order_is_total()
@@ -30,8 +31,9 @@ pub fn reading_is_depth_first()
         → (b : List Key) × (q ≡ p ++ b) }
 {}
 
-/// A reading is determined by its members.
+/// A reading is determined by its members. `Member` says by cases on a list what `Contains` says by number.
 pub fn one_reading()
+    ensures member { (xs : List (Node Key)) (z : Node Key) → Member z xs ↔ Contains xs z }
     ensures law { (xs ys : List (Node Key)) → IsReading key_cmp xs → IsReading key_cmp ys
         → ((z : Node Key) → Member z xs ↔ Member z ys) → xs ≡ ys }
 {}
@@ -48,7 +50,7 @@ pub fn run_stands_together()
     ensures law { (key : ℕ → Key) → AreRisingKeys key_cmp key
         → (text : List ℕ) (above : List Key) (n : ℕ) (front over tail : List (Node Key))
         → IsCutFor key_cmp above (key n) front over tail
-        → AreBelow key_cmp (key n) above → AreNewKeys key n (front ++ (over ++ tail))
+        → AreSmaller key_cmp (key n) above → AreNewKeys key n (front ++ (over ++ tail))
         → with_nodes key_cmp (run key above n text) (front ++ (over ++ tail))
         ≡ front ++ (over ++ (run key above n text ++ tail)) }
 {}
@@ -57,7 +59,7 @@ pub fn run_stands_together()
 pub fn tree_grows()
     ensures tree { (key : ℕ → Key) → AreRisingKeys key_cmp key
         → (text : List ℕ) (above : List Key) (n : ℕ) (d : List (Node Key)) → IsTree key_cmp d
-        → AreNewKeys key n d → (above ≡ []) ⊎ HasPath d above → AreBelow key_cmp (key n) above
+        → AreNewKeys key n d → (above ≡ []) ⊎ HasPath d above → AreSmaller key_cmp (key n) above
         → IsTree key_cmp (with_nodes key_cmp (run key above n text) d) }
     ensures members { (xs d : List (Node Key)) (z : Node Key) → Member z (with_nodes key_cmp xs d) ↔ (Member z xs ⊎ Member z d) }
 {}
@@ -73,12 +75,20 @@ pub fn elements_keep_origins()
         → map element_of d ≡ map element_of e → d ≡ e }
 {}
 
-/// Marked versions see an element where its version is marked and none of them deletes it.
+/// Marked versions see an element where its version is marked and none of them deletes it. So the order of the deletions
+/// is of no account, and one more that is put anywhere among them adds itself alone.
 pub fn seen_is_decided()
-    ensures deleted { (marks : List Bool) (deletions : List Deletion) (at : At)
+    ensures deleted { (marks : List Bool) (deletions : List RowDeletion) (at : At)
         → IsTrue (is_deleted_by marks deletions at) ↔ Deletes marks deletions at }
-    ensures seen { (marks : List Bool) (deletions : List Deletion) (row : Row) → IsTrue (is_seen_by marks deletions row)
+    ensures seen { (marks : List Bool) (deletions : List RowDeletion) (row : Row) → IsTrue (is_seen_by marks deletions row)
         ↔ (IsMarked marks row.at.version × ¬ (Deletes marks deletions row.at)) }
+    ensures unordered { (marks : List Bool) (ds es : List RowDeletion) (rows : List Row)
+        → ((d : RowDeletion) → Contains ds d ↔ Contains es d) → seen_rows marks ds rows ≡ seen_rows marks es rows }
+    ensures members { (old new : List RowDeletion) (d : RowDeletion) → PutsOne old d new
+        → (e : RowDeletion) → Contains new e ↔ (Contains old e ⊎ (e ≡ d)) }
+    ensures counted { (old new : List RowDeletion) (d : RowDeletion) → PutsOne old d new → length new ≡ length old + 1 }
+    ensures permuted { (old new : List RowDeletion) (d : RowDeletion) → PutsOne old d new
+        → IsPermutation (old ++ d ∷ []) new }
 {}
 
 /// A run that is put where its origin and its version's level allow it leaves a tree: so the rows of a document list
@@ -91,8 +101,8 @@ pub fn run_leaves_a_tree()
 
 /// Two runs that are typed behind one character at one time read alike in both orders of arrival.
 pub fn worked_rows()
-    ensures before { text_after x_run p_run q_run [] ≡ codes "aQPb" }
-    ensures after { text_after x_run q_run p_run [] ≡ codes "aQPb" }
-    ensures between { text_after x_run p_run q_run r_run ≡ codes "aQRPb" }
-    ensures between_after { text_after x_run q_run p_run r_run ≡ codes "aQRPb" }
+    ensures before { text_of_runs x_run p_run q_run [] ≡ codes "aQPb" }
+    ensures after { text_of_runs x_run q_run p_run [] ≡ codes "aQPb" }
+    ensures between { text_of_runs x_run p_run q_run r_run ≡ codes "aQRPb" }
+    ensures between_after { text_of_runs x_run q_run p_run r_run ≡ codes "aQRPb" }
 {}

@@ -13,8 +13,9 @@ use std::marker::Model;
 
 /// A document with one row for each element, in reading order.
 ///
-/// A row takes 32 bytes and a deletion 20. A run or a deletion finds its element by one pass over the rows; a run
-/// moves what follows it once.
+/// A row takes 32 bytes, a deletion 20, and a version its identifier and 32 more; all three up to twice that while room
+/// for more is kept. A run or a deletion finds its element by one pass over the rows, so a version that deletes m
+/// elements takes time m times the rows; a run moves what follows it once.
 #[derive(Drop)]
 pub struct PlainDocument {
     versions: Vec<Version>,
@@ -84,8 +85,8 @@ impl Document for PlainDocument {
             None => 0,
             Some(at) => index_of(&self.elements, at) + 1,
         };
-        let place = landing(&self.versions, &self.elements, start, first);
-        put_run(&mut self.elements, place, first, after, text);
+        let index = landing(&self.versions, &self.elements, start, first);
+        put_run(&mut self.elements, index, first, after, text);
     }
 
     fn delete(&mut self, at: At) {

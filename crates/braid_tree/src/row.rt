@@ -28,7 +28,7 @@ pub fn index_of(rows: &[PlainRow], at: At) -> usize
     unreachable!()
 }
 
-/// Passes over the neighbours with greater keys than `first`: the place of the next element, or the end.
+/// Passes over the neighbours with greater keys than `first`: the index of the next element, or the end.
 ///
 /// ```text
 /// a  Q  P  b  c    Q, P and b hang below a, by falling keys; c hangs below the root
@@ -48,23 +48,23 @@ pub fn landing(versions: &[Version], rows: &[PlainRow], start: usize, first: At)
     ensures passed { (k : ℕ) → start ≤ k → k < result → IsPassed (stamps_in versions.now) (rows_in rows.now) first k }
     ensures stop { result < length rows.now → IsNotPassed (stamps_in versions.now) (rows_in rows.now) first result }
 {
-    let mut place = start;
-    while place < rows.len() && has_greater_key(versions, rows[place].at, first) {
-        place += 1;
+    let mut index = start;
+    while index < rows.len() && has_greater_key(versions, rows[index].at, first) {
+        index += 1;
     }
-    place
+    index
 }
 
-/// Puts the rows of a run, from `place` on, where there is room for them: at the end first, then by one move of the
+/// Puts the rows of a run, from `index` on, where there is room for them: at the end first, then by one move of the
 /// tail.
-pub fn put_run(rows: &mut Vec<PlainRow>, place: usize, first: At, origin: Option<At>, text: &[char])
-    requires within { place ≤ vec_len rows.old }
+pub fn put_run(rows: &mut Vec<PlainRow>, index: usize, first: At, origin: Option<At>, text: &[char])
+    requires within { index ≤ vec_len rows.old }
     requires roomy { vec_len rows.old + length text.now ≤ vec_capacity rows.old }
     requires fits { first.ordinal + length text.now < 2 ^ 32 }
     ensures len { vec_len rows.new ≡ vec_len rows.old + length text.now }
     ensures in_place { vec_capacity rows.new ≡ vec_capacity rows.old }
-    ensures put { rows.new.items ≡ take place rows.old.items
-        ++ (new_rows first.version origin first.ordinal text.now ++ drop place rows.old.items) }
+    ensures put { rows.new.items ≡ take index rows.old.items
+        ++ (new_rows first.version origin first.ordinal text.now ++ drop index rows.old.items) }
 {
     let mut at = first;
     let mut origin = origin;
@@ -78,6 +78,6 @@ pub fn put_run(rows: &mut Vec<PlainRow>, place: usize, first: At, origin: Option
         origin = Some(at);
         at.ordinal += 1;
     }
-    let tail = &mut rows[place..];
+    let tail = &mut rows[index..];
     tail.rotate_right(text.len());
 }

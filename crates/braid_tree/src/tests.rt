@@ -1,6 +1,6 @@
 //! Texts that are typed into any document, through its trait alone.
 
-ghost use Rattle.std.specs.Prelude.{◌+◌, ◌<◌, ◌≤◌, length, OnOk, IsTrue};
+ghost use Rattle.std.specs.Prelude.{◌≡◌, ◌+◌, ◌<◌, length, OnOk, IsTrue};
 
 use super::*;
 use braid_ids::{Id, Marks};
@@ -67,7 +67,7 @@ fn type_chars<D: Document>(
     text: &[char],
 ) -> Result<(), Fail>
     requires few { length (D.stamps doc.old) < 1000 }
-    ensures begun { length (D.stamps doc.new) ≤ length (D.stamps doc.old) + 1 }
+    ensures begun { OnOk result (length (D.stamps doc.new) ≡ length (D.stamps doc.old) + 1) }
 {
     check(doc.elements() < 1_000_000 && text.len() < 1_000_000, "few")?;
     check(doc.deletions() < 1_000_000, "few")?;
@@ -92,7 +92,7 @@ fn type_text<D: Document>(
     text: &str,
 ) -> Result<(), Fail>
     requires few { length (D.stamps doc.old) < 1000 }
-    ensures begun { length (D.stamps doc.new) ≤ length (D.stamps doc.old) + 1 }
+    ensures begun { OnOk result (length (D.stamps doc.new) ≡ length (D.stamps doc.old) + 1) }
 {
     let mut chars = Vec::new(alloc);
     for character in text.chars() {
@@ -101,28 +101,28 @@ fn type_text<D: Document>(
     type_chars(alloc, doc, author, at, &chars)
 }
 
-/// Deletes as a version of its own the elements from one to another of those that the marked versions see.
-fn delete_range<D: Document>(
+/// Deletes as version number `number`, which sees itself too, some elements from the one at `from` on.
+fn delete_chars<D: Document>(
     alloc: Global,
     doc: &mut D,
+    number: u32,
     author: Author<'_>,
     from: u32,
-    to: u32,
+    count: u32,
 ) -> Result<(), Fail>
     requires few { length (D.stamps doc.old) < 1000 }
-    ensures begun { length (D.stamps doc.new) ≤ length (D.stamps doc.old) + 1 }
+    requires next { number ≡ length (D.stamps doc.old) }
+    ensures begun { OnOk result (length (D.stamps doc.new) ≡ number + 1) }
 {
-    check(
-        doc.elements() < 1_000_000 && doc.deletions() < 1_000_000,
-        "few",
-    )?;
-    check(from <= to && to < 1_000_000, "a range")?;
+    check(doc.elements() < 1_000_000 && count < 1_000_000, "few")?;
+    check(doc.deletions() < 1_000_000, "few")?;
     let id = Id::read(alloc, author.name.as_bytes())?;
     let marks = marks_of(alloc, author.sees)?;
-    doc.reserve(1, 0, to - from)?;
+    check(marks.has(number), "it sees itself")?;
+    doc.reserve(1, 0, count)?;
     doc.begin(id, author.level);
-    for n in from..to {
-        if let Some(at) = doc.visible_at(&marks, n) {
+    for _ in 0..count {
+        if let Some(at) = doc.visible_at(&marks, from) {
             doc.delete(at);
         }
     }
@@ -158,15 +158,15 @@ fn both_orders_of_arrival_read_alike(rt: HostRuntime) -> Result<(), Fail> {
 
 /// A deleted range does not take what was typed in it at the same time, and its elements stay as origins.
 fn delete_around<D: Document>(alloc: Global, doc: &mut D) -> Result<(), Fail>
-    requires few { length (D.stamps doc.old) < 10 }
+    requires new { length (D.stamps doc.old) ≡ 0 }
 {
     type_text(alloc, doc, by("x-1", 1, ""), 0, "abcd")?;
-    delete_range(alloc, doc, by("p-1", 2, "1"), 1, 3)?;
+    delete_chars(alloc, doc, 1, by("p-1", 2, "11"), 1, 2)?;
     type_text(alloc, doc, by("q-1", 2, "1"), 2, "Q")?;
     check(reads(alloc, doc, "111", "aQd")?, "kept between")?;
     check(reads(alloc, doc, "101", "abQcd")?, "not deleted there")?;
     check(reads(alloc, doc, "110", "ad")?, "deleted there")?;
-    delete_range(alloc, doc, by("r-1", 2, "1"), 2, 4)?;
+    delete_chars(alloc, doc, 3, by("r-1", 2, "1001"), 2, 2)?;
     check(reads(alloc, doc, "1001", "ab")?, "deleted by another")?;
     check(reads(alloc, doc, "1111", "aQ")?, "deleted by both")?;
     check(doc.elements() == 5 && doc.deletions() == 4, "the counts")

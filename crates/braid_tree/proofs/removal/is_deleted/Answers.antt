@@ -14,7 +14,7 @@ pub returns-then-has : goal.returns-then-has
 unfolding no_removal
 returns-then-has c =
     let s = walk_steps_at c.args.marks.now c.args.removals.now c.args.row.now.at c.loop-link.link c.in-Some.n no_removal c.requires.linked c.loop-link.invariant c.in-Some.is in
-    record { deleted = sym (s.hit (sym (mark_is c.args.marks.now _ c.has.result c.has.ensures.has) ∙ c.if-has.true)) }
+    record { deleted = sym (s.deleted (sym (mark_is c.args.marks.now _ c.has.result c.has.ensures.has) ∙ c.if-has.true)) }
 
 pub loop-link-smaller : goal.loop-link-smaller
 unfolding no_removal

@@ -1,6 +1,6 @@
 use Rattle.std.proofs.Common.{Option, MatchOption, length, ◌-◌, ◌∙◌, sym, subst}
 use Rattle.braid_tree.specs.declared.at.At.{At}
-use Rattle.braid_tree.specs.Rows.{HasPlace, IsNextOrdinal}
+use Rattle.braid_tree.specs.Rows.{HasPlace, AreNewOrdinals}
 use Rattle.braid_tree.proofs.Callers.{answer_there, next_begin}
 use Rattle.braid_tree.proofs.tests.type_chars.Goals as goal
 use Rattle.braid_tree.proofs.tests.type_chars.Goals.{in-0, in_default}
@@ -12,7 +12,7 @@ insert_run-requires-clause-there g c =
       | in_default w ↦ answer_there _ _ _ _ c.match-at.after (w.after-is ∙ w.visible_at-after.ensures.value)
     ])
 
-pub insert_run-requires-clause-next : goal.insert_run-requires-clause-next
-insert_run-requires-clause-next g c =
-    subst (λ t. IsNextOrdinal t (length (g.D.Document.stamps c.begin.new.self) - 1) 0) (sym c.begin.ensures.rows)
-    (subst (λ t. IsNextOrdinal (g.D.Document.rows c.reserve.new.self) (length t - 1) 0) (sym c.begin.ensures.stamps) (next_begin _ _ (g.D.Document.rows c.reserve.new.self) c.begin.ensures.known))
+pub insert_run-requires-clause-ordinals : goal.insert_run-requires-clause-ordinals
+insert_run-requires-clause-ordinals g c =
+    subst (λ t. AreNewOrdinals t (length (g.D.Document.stamps c.begin.new.self) - 1) 0) (sym c.begin.ensures.rows)
+    (subst (λ t. AreNewOrdinals (g.D.Document.rows c.reserve.new.self) (length t - 1) 0) (sym c.begin.ensures.stamps) (next_begin _ _ (g.D.Document.rows c.reserve.new.self) c.begin.ensures.known))
