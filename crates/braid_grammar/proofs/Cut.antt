@@ -57,6 +57,10 @@ lines_lines (l ∷ ls) more h =
     ∙ lines_line l (join ls ++ more) h.0
     ∙ ap (λ t. l ∷ t) (lines_lines ls more h.1)
 
+lacks_more : (s : List ℕ) (b : ℕ) → Lacks 10 s → eqb b 10 ≡ false → Lacks 10 (s ++ b ∷ [])
+lacks_more [] b h e = (eqb-false b 10 e, tt)
+lacks_more (c ∷ cs) b h e = (h.0, lacks_more cs b h.1 e)
+
 -- each of them is a line
 pub are_lines : (begun bytes : List ℕ) → Lacks 10 begun → AllByRecursion IsLine (lines_from begun bytes)
 are_lines begun [] h = tt
@@ -65,9 +69,13 @@ are_lines begun (b ∷ bs) h = elim (cases_Bool (eqb b 10)) [
   | inr e ↦ rw e (are_lines (begun ++ b ∷ []) bs (lacks_more begun b h e))
 ]
   where
-    lacks_more : (s : List ℕ) (b : ℕ) → Lacks 10 s → eqb b 10 ≡ false → Lacks 10 (s ++ b ∷ [])
-    lacks_more [] b h e = (eqb-false b 10 e, tt)
-    lacks_more (c ∷ cs) b h e = (h.0, lacks_more cs b h.1 e)
-
     line_of : (s : List ℕ) (b : ℕ) → Lacks 10 s → eqb b 10 ≡ true → IsLine (s ++ b ∷ [])
     line_of s b h e = record { inside = s; lacks = h; ends = ap (λ x. s ++ x ∷ []) (eqb-true b 10 e) }
+
+-- the line that has begun has no LF yet
+pub begun_lacks : (begun bytes : List ℕ) → Lacks 10 begun → Lacks 10 (begun_from begun bytes)
+begun_lacks begun [] h = h
+begun_lacks begun (b ∷ bs) h = elim (cases_Bool (eqb b 10)) [
+  | inl e ↦ rw e (begun_lacks [] bs tt)
+  | inr e ↦ rw e (begun_lacks (begun ++ b ∷ []) bs (lacks_more begun b h e))
+]

@@ -148,10 +148,10 @@ scan (suc n) at b l = more at b l (next_at at b) refl (λ to rest h. scan n to r
     more at b l (Whole u to rest) e rec = let k = next_back at b u to rest e in let s = shorter at b u to rest k in went_on at b u to rest k (rec to rest (omega arith))
 
 -- all that is left behind the gap
-rest_of : ℕ → List ℕ → Outcome (List ℕ)
+pub rest_of : ℕ → List ℕ → Outcome (List ℕ)
 rest_of at b = Whole b at b
 
-whole_same : (x y : List ℕ) (m n : ℕ) → rest_of m x ≡ rest_of n y → x ≡ y
+pub whole_same : (x y : List ℕ) (m n : ℕ) → rest_of m x ≡ rest_of n y → x ≡ y
 unfolding rest_of
 whole_same x y m n h = cc
 

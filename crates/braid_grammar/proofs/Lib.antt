@@ -6,8 +6,11 @@ pub mod Readers
 pub mod Spelled
 pub mod Back
 pub mod WrongLines
-pub mod Places
+pub mod GoodLines
 pub mod Law
+pub mod Gaps
+pub mod Places
+pub mod WrongUpdates
 pub mod Lengths
 pub mod Canonical
 pub mod OneUpdate

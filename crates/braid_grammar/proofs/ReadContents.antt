@@ -1,5 +1,5 @@
 -- Reading contents and patches of whole slices.
-use Rattle.std.proofs.Common.{◌≡◌, ℕ, suc, ◌+◌, ◌-◌, ◌≤◌, ◌<◌, true, false, List, [], ◌∷◌, ◌++◌, length, take, drop, refl, sym, ap, subst, ◌∙◌, append_assoc, eqb, ltb, arith, length-append, inl, inr, min, ◌^◌}
+use Rattle.std.proofs.Common.{◌≡◌, ℕ, suc, ◌+◌, ◌-◌, ◌≤◌, ◌<◌, true, false, List, [], ◌∷◌, ◌++◌, length, take, drop, refl, sym, ap, subst, ◌∙◌, append_assoc, ltb, arith, length-append, inl, inr, min, ◌^◌}
 use Rattle.std.proofs.lemmas.Bool.{cases_Bool, le-ltb}
 use Rattle.std.proofs.lemmas.List.{append-nil}
 use Rattle.std.specs.Str.{chars, is_utf8}
@@ -7,13 +7,12 @@ use Rattle.braid_change.specs.declared.patch.Patch.{Patch}
 use Rattle.braid_change.specs.Texts.{IsTextOf}
 use Rattle.braid_fields.specs.declared.reason.Reason.{Reason}
 use Rattle.braid_fields.specs.declared.reason.Reason.TheVariants.{NotText}
-use Rattle.braid_fields.specs.Lines.{is_empty_line}
 use Rattle.braid_grammar.specs.Outcomes.{Outcome, Part, Bad, Whole, then_read, content_at, past_gap}
 use Rattle.braid_grammar.specs.Readings.{patch_len, patch_at, patches_at}
 use Rattle.braid_grammar.specs.Readers.{IsBehindGap}
 use Rattle.braid_grammar.proofs.Characters.{text_is_utf8, text_chars, chars_are_text}
-use Rattle.braid_grammar.proofs.Spelled.{gap_reads}
 use Rattle.braid_grammar.proofs.Back.{patch_back}
+use Rattle.braid_grammar.proofs.Gaps.{gap_passed}
 use Rattle.braid_fields.proofs.PlanLimits.{patch_within}
 use Rattle.braid_grammar.proofs.OneUpdate.{content_len_is}
 
@@ -33,27 +32,8 @@ content_wrong n at bytes content l e k = elim (cases_Bool (is_utf8 (take n bytes
 -- behind its gap, bytes are read as what is left of them
 pub past_behind : {A : Type 0} (f : ℕ → List ℕ → Outcome A) (at : ℕ) (bytes rest : List ℕ) → IsBehindGap bytes rest → past_gap f at bytes ≡ f (at + (length bytes - length rest)) rest
 past_behind f at bytes rest k =
-    ap (past_gap f at) k.spelled
-    ∙ gap_reads f at k.gap rest k.is_gap
-    ∙ stopped f (at + length k.gap) rest k.stops
+    gap_passed f at bytes rest k
     ∙ ap (λ n. f n rest) (let e : at + length k.gap ≡ at + (length bytes - length rest) = omega (arith, ap length k.spelled, length-append k.gap rest) in e)
-  where
-    stopped : {A : Type 0} (f : ℕ → List ℕ → Outcome A) (at : ℕ) (rest : List ℕ) → ((line more : List ℕ) → is_empty_line line ≡ true → rest ≡ line ++ more → ⊥) → past_gap f at rest ≡ f at rest
-    stopped f at [] h = refl
-    stopped f at (b ∷ []) h = elim (cases_Bool (eqb b 10)) [
-      | inl e ↦ absurd (h (b ∷ []) [] e refl)
-      | inr e ↦ rw e refl
-    ]
-    stopped f at (b ∷ c ∷ bs) h = elim (cases_Bool (eqb b 10)) [
-      | inl e ↦ absurd (h (b ∷ []) (c ∷ bs) e refl)
-      | inr e ↦ elim (cases_Bool (eqb b 13)) [
-        | inl d ↦ elim (cases_Bool (eqb c 10)) [
-          | inl g ↦ absurd (h (b ∷ c ∷ []) bs (rw d g) refl)
-          | inr g ↦ rw (e, d, g) refl
-        ]
-        | inr d ↦ rw (e, d) refl
-      ]
-    ]
 
 pub behind_shorter : (bytes rest : List ℕ) → IsBehindGap bytes rest → length rest ≤ length bytes
 behind_shorter bytes rest k = omega (arith, ap length k.spelled, length-append k.gap rest)

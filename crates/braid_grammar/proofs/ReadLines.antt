@@ -2,6 +2,7 @@
 use Rattle.std.proofs.Common.{◌≡◌, ◌≢◌, ℕ, ◌+◌, true, false, List, [], ◌∷◌, ◌++◌, length, codes, refl, sym, ap, ◌∙◌, append_assoc, arith, ◌<◌, length-append, subst, inl, inr, Some, None, Result, min, take, ltb, ◌≤◌}
 use Rattle.std.proofs.lemmas.Bool.{cases_Bool, lt-ltb, le-ltb, ltb-true, ltb-false}
 use Rattle.std.proofs.lemmas.List.{append-nil, take_all, length-take}
+use Rattle.std.specs.List.{AllByRecursion}
 use Rattle.std.specs.Result.{IfOk}
 use Rattle.braid_ids.specs.Lists.{Lacks}
 use Rattle.braid_fields.specs.declared.parts.HeadFields.{HeadFields}
@@ -22,11 +23,12 @@ use Rattle.braid_grammar.specs.Lines.{IsLine, join, lines_of, lines_from, begun_
 use Rattle.braid_grammar.specs.Heads.{Verdict, Open, Wrong, Closed, behind, with_field, fields_of, some_fields_of, head_of}
 use Rattle.braid_grammar.specs.Outcomes.{Part, Bad, head_limit, settle, head_at}
 use Rattle.braid_grammar.specs.Streams.{IsEmptyLine, IsGap, no_line, one_more}
+use Rattle.braid_grammar.specs.FaultPlaces.{Owner, AnUpdate, APatch}
 use Rattle.braid_grammar.specs.Readers.{IsBehindGap, judge_of, IsVerdict, IsWithin, FindsHead}
 use Rattle.braid_grammar.proofs.Cut.{lines_line, lines_lack, lines_join, are_lines}
 use Rattle.braid_grammar.proofs.Stable.{judge_fields, judge_heads}
 use Rattle.braid_grammar.proofs.Readers.{limit_is}
-use Rattle.braid_grammar.proofs.WrongLines.{WrongBy, some_fields_wrong, head_wrong}
+use Rattle.braid_grammar.proofs.WrongLines.{verdict_of, lines_wrong}
 use Rattle.braid_grammar.proofs.Back.{join_split}
 use Rattle.braid_grammar.proofs.Canonical.{gap_append}
 
@@ -138,13 +140,16 @@ lines_len bytes = omega (arith, ap length (lines_join [] bytes), length-append (
 join_len : (before : List (List ℕ)) (line : List ℕ) (others ls : List (List ℕ)) → ls ≡ before ++ (line ∷ others) → length (join before) ≤ length (join ls)
 join_len before line others ls e = omega (arith, ap length (ap join e ∙ join_split before (line ∷ others)), length-append (join before) (join (line ∷ others)))
 
-wrong_within : (ls : List (List ℕ)) (k : ℕ) (r : Reason) → WrongBy k r ls → k ≤ length (join ls)
-wrong_within ls k r w = omega (arith, w.place, join_len w.before w.line w.others ls w.whole)
+wrong_within : (owner : Owner) (ls : List (List ℕ)) (k : ℕ) (r : Reason) → AllByRecursion IsLine ls → verdict_of owner ls ≡ Wrong k r → k ≤ length (join ls)
+wrong_within owner ls k r all e = elim (lines_wrong owner ls k r all e) [
+  | inl w ↦ omega (arith, w.place, join_len (w.statuses ++ w.fields) w.line w.others ls w.whole)
+  | inr w ↦ omega (arith, w.place)
+]
 
 pub within : (kind : HeadKind) (bytes : List ℕ) (said : LinesVerdict) → IsVerdict said (judge_of kind (lines_of bytes)) → IsWithin said (length bytes)
 within kind bytes said.Open h = tt
-within OfUpdate bytes (said.Wrong k r) h = omega (arith, wrong_within (lines_of bytes) k r (head_wrong (lines_of bytes) k r (are_lines [] bytes tt) h), lines_len bytes)
-within OfPatch bytes (said.Wrong k r) h = omega (arith, wrong_within (lines_of bytes) k r (some_fields_wrong (lines_of bytes) k r (are_lines [] bytes tt) h), lines_len bytes)
+within OfUpdate bytes (said.Wrong k r) h = omega (arith, wrong_within AnUpdate (lines_of bytes) k r (are_lines [] bytes tt) h, lines_len bytes)
+within OfPatch bytes (said.Wrong k r) h = omega (arith, wrong_within (APatch 0 0) (lines_of bytes) k r (are_lines [] bytes tt) h, lines_len bytes)
 within OfUpdate bytes (said.Closed fields k) h = omega (arith, judge_heads.within (lines_of bytes) h.0 k h.2, lines_len bytes)
 within OfPatch bytes (said.Closed fields k) h = omega (arith, judge_fields.within (lines_of bytes) h.0 k h.2, lines_len bytes)
 

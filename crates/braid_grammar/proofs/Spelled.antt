@@ -137,7 +137,7 @@ status_fields_read fs (t ∷ []) ls more last s g n h e =
     ∙ ap (Closed fs) (let k : length t + length (join ls ++ last) ≡ length ((t ++ []) ++ (join ls ++ last)) = omega (arith, length-append (t ++ []) (join ls ++ last), length-append t []) in k))
 status_fields_read fs (t ∷ u ∷ st) ls more last s g n h e = absurd (omega arith)
 
-status_lines : (st : List (List ℕ)) → AllByRecursion HoldsStatus st → AllByRecursion IsLine st
+pub status_lines : (st : List (List ℕ)) → AllByRecursion HoldsStatus st → AllByRecursion IsLine st
 status_lines [] h = tt
 status_lines (s ∷ st) h = (h.0.0, status_lines st h.1)
 

@@ -17,13 +17,13 @@ use Rattle.braid_grammar.specs.declared.stream.StreamEnd.TheVariants as ends
 use Rattle.braid_grammar.specs.Heads.{Verdict, Open, Wrong, Closed, some_fields_of, head_of}
 use Rattle.braid_grammar.specs.Outcomes.{Outcome, Part, Bad, Whole, then_read}
 use Rattle.braid_grammar.specs.Readings.{change_at}
-use Rattle.braid_grammar.specs.Streams.{IsEmptyLine, IsGap, IsStream, IsFault, Completes, IsTorn}
+use Rattle.braid_grammar.specs.Streams.{IsGap, BeginsNoEmptyLine, IsStream, IsFault, Completes, IsTorn}
 
 -- what is left of bytes behind the gap that they begin with: no further empty line stands first in it
 pub record IsBehindGap (bytes rest : List ℕ) : Type 0 where
   pub gap : List ℕ
   pub is_gap : IsGap gap
-  pub stops : (line more : List ℕ) → IsEmptyLine line → rest ≡ line ++ more → ⊥
+  pub stops : BeginsNoEmptyLine rest
   pub spelled : bytes ≡ gap ++ rest
 
 -- what lines say of a head of this kind

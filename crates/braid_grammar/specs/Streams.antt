@@ -28,6 +28,10 @@ pub data IsGap : List ℕ → Type 0 where
   no_line : IsGap []
   one_more : (line rest : List ℕ) → IsEmptyLine line → IsGap rest → IsGap (line ++ rest)
 
+-- the bytes begin with no empty line
+abbrev pub BeginsNoEmptyLine : List ℕ → Type 0
+BeginsNoEmptyLine bytes = (line more : List ℕ) → IsEmptyLine line → bytes ≡ line ++ more → ⊥
+
 -- the line is a field line with this field
 abbrev pub HoldsField : Field → List ℕ → Type 0
 HoldsField f line = IsFieldLine f.name f.value line
@@ -137,7 +141,8 @@ abbrev pub IsStream : List UpdateView → List ℕ → Type 0
 IsStream [] bytes = IsGap bytes
 IsStream (u ∷ us) bytes = AfterGap (SpellsUpdate u) (IsStream us) bytes
 
--- what follows a stream in the bytes has a fault, at a place that counts from the first byte of all
+-- what follows a stream in the bytes has a fault, at a place that counts from the first byte of all (`IsWrongAt` says the
+-- same in words, and `laws::fault_in_words` that it is the same)
 pub record IsFault (bytes : List ℕ) (at : ℕ) (reason : Reason) : Type 0 where
   pub updates : List UpdateView
   pub front : List ℕ
@@ -154,7 +159,7 @@ pub record Completes (us : List UpdateView) (bytes : List ℕ) : Type 0 where
   pub no_more : (u : UpdateView) (gap first more : List ℕ) → IsGap gap → SpellsUpdate u first → rest ≡ gap ++ (first ++ more) → ⊥
   pub spelled : bytes ≡ front ++ rest
 
--- no stream, and no fault: the bytes end within an update
+-- no stream, and no fault: the bytes end within a line, a head or a content, or before a patch
 pub record IsTorn (bytes : List ℕ) : Type 0 where
   pub no_stream : (us : List UpdateView) → IsStream us bytes → ⊥
   pub no_fault : (at : ℕ) (reason : Reason) → IsFault bytes at reason → ⊥

@@ -1,20 +1,12 @@
 //! Laws of the definitions, each the contract of a function that does nothing.
 
-ghost use Rattle.std.specs.Prelude.{◌≡◌, ◌≤◌, ◌+◌, ◌⊎◌, ◌∷◌, ◌++◌, [], List, ℕ, false, Ok, Err, length};
-ghost use Rattle.braid_change.specs.Texts.{IsTextOf};
+ghost use Rattle.std.specs.Prelude.{◌≡◌, ◌+◌, ◌⊎◌, ◌↔◌, ◌∷◌, ◌++◌, [], List, ℕ, length};
 ghost use Rattle.braid_change.specs.Updates.{UpdateView};
 ghost use Rattle.braid_change.specs.Spellings.{canonical};
 ghost use Rattle.braid_fields.specs.declared.reason.Reason.{Reason};
-ghost use Rattle.braid_fields.specs.declared.reason.Reason.TheVariants.{BadLine, NotText};
-ghost use Rattle.braid_fields.specs.declared.plan.Asks.TheVariants.{Body};
-ghost use Rattle.braid_fields.specs.declared.plan.Plan.{Plan};
-ghost use Rattle.braid_fields.specs.Lines.{is_empty_line};
-ghost use Rattle.braid_fields.specs.Fields.{Field, IsFieldLine};
-ghost use Rattle.braid_fields.specs.Table.{judge_head};
-ghost use Rattle.braid_grammar.specs.Lines.{IsLine, join};
-ghost use Rattle.braid_grammar.specs.Outcomes.{head_limit, Whole};
+ghost use Rattle.braid_grammar.specs.Outcomes.{Whole};
 ghost use Rattle.braid_grammar.specs.Readings.{next_at};
-ghost use Rattle.braid_grammar.specs.Streams.{IsGap, HoldFields, IsHead, SpellsUpdate, IsStream, IsFault, Completes, IsTorn};
+ghost use Rattle.braid_grammar.specs.Streams.{IsGap, SpellsUpdate, IsStream, IsFault, Completes, IsTorn};
 ghost use Rattle.braid_grammar.specs.FaultPlaces.{IsWrongAt};
 ghost use Rattle.braid_grammar.specs.Held.{IsUpdate};
 
@@ -35,22 +27,11 @@ pub fn one_list()
     ensures stream { (us : List UpdateView) (b : List ℕ) → IsStream us b → Completes us b }
 {}
 
-/// Where a fault stands, a line, a head or a content is wrong, for the reason that the fault has.
-pub fn fault_has_a_place()
-    ensures law { (b : List ℕ) (at : ℕ) (r : Reason) → IsFault b at r → IsWrongAt b at r }
-{}
-
-/// Behind a stream and a gap, each of these is the fault: a line behind field lines that is neither empty nor a field
-/// line; a head with a reason against it; a body that is no text.
-pub fn what_is_wrong_is_a_fault()
-    ensures line { (us : List UpdateView) (front gap : List ℕ) (fs : List Field) (lines : List (List ℕ)) (line more : List ℕ) → IsStream us front → IsGap gap → HoldFields fs lines → 1 ≤ length lines
-        → IsLine line → is_empty_line line ≡ false → ((name value : List ℕ) → IsFieldLine name value line → ⊥) → length (join lines ++ line) ≤ head_limit
-        → IsFault (front ++ (gap ++ (join lines ++ (line ++ more)))) (length front + length gap + length (join lines)) BadLine }
-    ensures head { (us : List UpdateView) (front gap head more : List ℕ) (fs : List Field) (r : Reason) → IsStream us front → IsGap gap → IsHead fs head → judge_head fs ≡ Err r
-        → IsFault (front ++ (gap ++ (head ++ more))) (length front + length gap) r }
-    ensures content { (us : List UpdateView) (front gap head content more : List ℕ) (fs : List Field) (plan : Plan) → IsStream us front → IsGap gap → IsHead fs head
-        → judge_head fs ≡ Ok plan → plan.asks ≡ Body (length content) → ((text : List ℕ) → IsTextOf text content → ⊥)
-        → IsFault (front ++ (gap ++ (head ++ (content ++ more)))) (length front + length gap + length head) NotText }
+/// A fault, in the words of the grammar: behind a stream a head may stand, or behind the patches before it that of a
+/// patch; and there a line behind good lines is wrong, or the head has no end within the limit, or has a reason
+/// against it, or the content that it asks for is no text. Each of these is the fault, and there is no other.
+pub fn fault_in_words()
+    ensures law { (bytes : List ℕ) (at : ℕ) (reason : Reason) → IsFault bytes at reason ↔ IsWrongAt bytes at reason }
 {}
 
 /// No bytes spell two updates, and none begin with two: what is spelled first is one update, with one rest behind it.

@@ -2,9 +2,10 @@
 //!
 //! A stream is any number of updates, each after empty lines. An update is a head of field lines in the manner of
 //! RFC 9112, and the content that the head asks for: a body, or patches with heads of their own. `laws` says that
-//! bytes are a stream of one list of updates, or have one fault at one place, or neither, and end within an update;
-//! and that the canonical spelling of an update is read as that update, whatever follows it. `read_stream` reads a
-//! whole slice by these definitions.
+//! bytes are a stream of one list of updates, or have one fault at one place, or neither: they end before that is
+//! decided. It says what a fault is in the words of the grammar, a line, a head or a content that is wrong where one
+//! may stand; and that the canonical spelling of an update is read as that update, whatever follows it. `read_stream`
+//! reads a whole slice by these definitions.
 //!
 //! Nothing here reads a connection or keeps a part of an update between calls: that is for the crates above.
 #![tactic(auto)]

@@ -16,7 +16,7 @@ pub enum StreamEnd {
     Gap,
     /// They have this fault, at a place that counts from the first byte.
     Fault { at: u64, reason: Reason },
-    /// They are neither: an update has begun and is not whole.
+    /// They are neither: they end within a line, a head or a content, or before a patch.
     Torn,
 }
 
