@@ -9,12 +9,12 @@ use Rattle.braid_grammar.proofs.Back.{next_back}
 use Rattle.braid_grammar.proofs.Law.{IsEnd, Runs, runs_same, front_runs, some_bytes}
 
 -- behind them, the next update is not whole
-record RunsOut (us : List UpdateView) (b : List ℕ) : Type 0 where
-  outcome : Outcome UpdateView
-  is_end : IsEnd outcome
-  runs : Runs 0 b us outcome
+pub record RunsOut (us : List UpdateView) (b : List ℕ) : Type 0 where
+  pub outcome : Outcome UpdateView
+  pub is_end : IsEnd outcome
+  pub runs : Runs 0 b us outcome
 
-runs_out : (us : List UpdateView) (b : List ℕ) → Completes us b → RunsOut us b
+pub runs_out : (us : List UpdateView) (b : List ℕ) → Completes us b → RunsOut us b
 runs_out us b k = go (next_at (length k.front) k.rest) refl
   where
     go : (o : Outcome UpdateView) → next_at (length k.front) k.rest ≡ o → RunsOut us b

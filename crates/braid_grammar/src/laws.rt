@@ -27,9 +27,10 @@ pub fn one_list()
     ensures stream { (us : List UpdateView) (b : List ℕ) → IsStream us b → Completes us b }
 {}
 
-/// A fault, in the words of the grammar: behind a stream a head may stand, or behind the patches before it that of a
-/// patch; and there a line behind good lines is wrong, or the head has no end within the limit, or has a reason
-/// against it, or the content that it asks for is no text. Each of these is the fault, and there is no other.
+/// A fault, in the words of the grammar. The head of an update may stand behind a stream, and that of a patch behind the
+/// head of its update and the patches before. There a line behind good lines is wrong, or the head has no end within
+/// the limit, or has a reason against it, or the content that it asks for is no text. Each of these is the fault, and
+/// there is no other.
 pub fn fault_in_words()
     ensures law { (bytes : List ℕ) (at : ℕ) (reason : Reason) → IsFault bytes at reason ↔ IsWrongAt bytes at reason }
 {}
