@@ -1,18 +1,18 @@
 ghost use Rattle.std.specs.Prelude.{◌≡◌};
-ghost use Rattle.braid_cli.specs.Commands.{Runs, Completes};
+ghost use Rattle.braid_check.specs.Runs.{Runs, Succeeds};
 
-use crate::check::{check_run, refuse_words};
+use braid_check::{check_run, refuse_words};
 use braid_ids::Word;
 use braid_io::{Sink, Source, Status};
 use std::alloc::Global;
 
 /// Carries out the command that the words are, and answers how it ended.
 ///
-/// The command `check` reads a chain of updates from `source` and writes its text to `out`. Other words are written
-/// as `fault: Usage`, and the source is left alone.
+/// The command `check` reads an update stream from `source` and writes its text to `out`. Other words are written as
+/// `fault: Usage`, and the source is left alone.
 pub fn run<S: Source, O: Sink>(alloc: Global, words: &[Word], source: &mut S, out: &mut O) -> Status
     ensures runs { Runs words.now result (S.intake source.old) (S.intake source.new) (O.outflow out.old) (O.outflow out.new) }
-    ensures completes { Completes words.now result (S.intake source.old) (S.intake source.new) (O.outflow out.old) (O.outflow out.new) }
+    ensures completes { Succeeds words.now result (S.intake source.old) (S.intake source.new) (O.outflow out.old) (O.outflow out.new) }
     ensures kept { (S.beside_reads source.new ≡ S.beside_reads source.old) × (O.beside_writes out.new ≡ O.beside_writes out.old) }
 {
     match words.first() {

@@ -7,7 +7,6 @@
 //! Not promised: what a terminal, a pipe or a file behind standard input and output holds.
 #![tactic(auto)]
 
-mod check;
 mod commands;
 mod words;
 

@@ -1,5 +1,3 @@
-ghost use Rattle.std.specs.Prelude.{◌<◌};
-
 use super::*;
 use braid_ids::{Bytes, Word};
 use braid_io::{MemSink, MemSource};
@@ -9,9 +7,6 @@ use std::test::Fail;
 
 const ONE: &[u8] = b"Version: \"a-1\"\r\nParents:\r\nContent-Length: 2\r\n\r\nhi";
 
-const TWO: &[u8] =
-    b"Version: \"a-1\"\r\nParents:\r\nContent-Length: 2\r\n\r\nhi\r\n\r\nVersion: \"a-2\"\r\nParents: \"a-1\"\r\nContent-Length: 10\r\n\r\na\xc3\xa9\xe2\x82\xac\xf0\x9f\x98\x80\r\n\r\n";
-
 /// What a run on these words left.
 #[derive(Drop)]
 struct Outcome {
@@ -20,27 +15,14 @@ struct Outcome {
     source: MemSource,
 }
 
-/// Runs the program on these words, over this input in pieces, with these calls of the source and the sink failing.
-fn run_words(
-    alloc: Global,
-    words: &[&[u8]],
-    input: &[u8],
-    piece: usize,
-    read_fails: &[u64],
-    write_fails: &[u64],
-) -> Result<Outcome, Fail>
-    requires { 0 < piece }
-{
+/// Runs the program on these words, over this input.
+fn run_words(alloc: Global, words: &[&[u8]], input: &[u8]) -> Result<Outcome, Fail> {
     let mut list = Vec::new(alloc);
     for word in words {
         list.push(Word::of(alloc, word)?)?;
     }
-    let mut source = MemSource::new(
-        Bytes::of(alloc, input)?,
-        piece,
-        Vec::from_slice(alloc, read_fails)?,
-    );
-    let mut out = MemSink::new(alloc, 100, Vec::from_slice(alloc, write_fails)?)?;
+    let mut source = MemSource::new(Bytes::of(alloc, input)?, 10, Vec::new(alloc));
+    let mut out = MemSink::new(alloc, 100, Vec::new(alloc))?;
     let status = commands::run(alloc, &list, &mut source, &mut out);
     Ok(Outcome {
         status,
@@ -50,93 +32,35 @@ fn run_words(
 }
 
 #[test]
-fn check_prints_the_last_body_or_why_there_is_none(rt: HostRuntime) -> Result<(), Fail> {
-    let alloc = rt.alloc();
-    let rows: [(&[u8], Status, &[u8]); 7] = [
-        (ONE, Status::Done, b"versions: 1\ntext:\nhi\n"),
-        (b"", Status::Done, b"versions: 0\ntext:\n\n"),
+fn the_first_word_picks_the_run(rt: HostRuntime) -> Result<(), Fail> {
+    let rows: [(&[&[u8]], &[u8], Status, &[u8]); 3] = [
+        (&[b"check"], ONE, Status::Done, b"versions: 1\ntext:\nhi\n"),
         (
-            TWO,
-            Status::Done,
-            b"versions: 2\ntext:\na\xc3\xa9\xe2\x82\xac\xf0\x9f\x98\x80\n",
-        ),
-        (
-            b"Version:\"a\\\"1\"\r\nParents:\r\nContent-Length: 0\r\n\r\n",
-            Status::Done,
-            b"versions: 1\ntext:\n\n",
-        ),
-        (
-            b"Version: \"a\",\r\nParents:\r\nContent-Length: 0\r\n\r\n",
+            &[b"check"],
+            b"no colon\n",
             Status::Bad,
-            b"fault: NotYet\n",
+            b"fault: BadLine at 0\n",
         ),
-        (&ONE[..48], Status::Bad, b"fault: NotYet\n"),
-        (b"hi", Status::Bad, b"fault: NotYet\n"),
+        (
+            &[b"check", b"--help"],
+            ONE,
+            Status::Usage,
+            b"fault: Usage\n",
+        ),
     ];
-    for (input, status, text) in rows {
-        for piece in [1usize, 10, 4096] {
-            let found = run_words(alloc, &[b"check"], input, piece.max(1), &[], &[])?;
-            assert_eq!(rt; found.status, status);
-            assert_eq!(rt; found.out.written(), text);
-            assert_eq!(rt; found.source.left(), b"".as_slice());
-        }
+    for (words, input, status, text) in rows {
+        let found = run_words(rt.alloc(), words, input)?;
+        assert_eq!(rt; found.status, status);
+        assert_eq!(rt; found.out.written(), text);
     }
     Ok(())
 }
 
 #[test]
-fn a_failed_read_and_a_failed_write_are_told_by_the_status(rt: HostRuntime) -> Result<(), Fail> {
-    let alloc = rt.alloc();
-    let found = run_words(alloc, &[b"check"], ONE, 10, &[2], &[])?;
-    assert_eq!(rt; found.status, Status::Outside);
-    assert_eq!(rt; found.out.written(), b"fault: ReadFault\n".as_slice());
-    let found = run_words(alloc, &[b"check"], ONE, 10, &[], &[0])?;
-    assert_eq!(rt; found.status, Status::Outside);
-    assert_eq!(rt; found.out.written(), b"".as_slice());
-    let found = run_words(alloc, &[b"check"], ONE, 10, &[], &[1])?;
-    assert_eq!(rt; found.status, Status::Done);
-    let found = run_words(alloc, &[b"other"], ONE, 10, &[], &[0])?;
-    assert_eq!(rt; found.status, Status::Outside);
-    assert_eq!(rt; found.out.written(), b"".as_slice());
-    Ok(())
-}
-
-#[test]
-fn a_sink_without_room_keeps_a_prefix_of_the_text(rt: HostRuntime) -> Result<(), Fail> {
-    let alloc = rt.alloc();
-    let mut source = MemSource::new(Bytes::of(alloc, ONE)?, 10, Vec::new(alloc));
-    let mut out = MemSink::new(alloc, 5, Vec::new(alloc))?;
-    let words = vec![in alloc; Word::of(alloc, b"check")?]?;
-    let status = commands::run(alloc, &words, &mut source, &mut out);
-    assert_eq!(rt; status, Status::Outside);
-    assert_eq!(rt; out.written(), b"versi".as_slice());
-    Ok(())
-}
-
-#[test]
-fn a_text_past_the_limit_is_not_read_to_its_end(rt: HostRuntime) -> Result<(), Fail> {
-    let alloc = rt.alloc();
-    let input = vec![in alloc; b'a'; 16_777_216 + 10_000]?;
-    let found = run_words(alloc, &[b"check"], &input, 4096, &[], &[])?;
-    assert_eq!(rt; found.status, Status::Bad);
-    assert_eq!(rt; found.out.written(), b"fault: NotYet\n".as_slice());
-    assert_eq!(rt; found.source.left().len(), 10_000 - 4096);
-    Ok(())
-}
-
-#[test]
 fn other_words_are_refused_and_nothing_is_read(rt: HostRuntime) -> Result<(), Fail> {
-    let alloc = rt.alloc();
-    let rows: [&[&[u8]]; 6] = [
-        &[],
-        &[b"Check"],
-        &[b"check", b"--help"],
-        &[b"check", b""],
-        &[b"--check"],
-        &[b"check\xff"],
-    ];
+    let rows: [&[&[u8]]; 3] = [&[], &[b"Check"], &[b"--check"]];
     for words in rows {
-        let found = run_words(alloc, words, ONE, 10, &[], &[])?;
+        let found = run_words(rt.alloc(), words, ONE)?;
         assert_eq!(rt; found.status, Status::Usage);
         assert_eq!(rt; found.out.written(), b"fault: Usage\n".as_slice());
         assert_eq!(rt; found.source.left(), ONE);

@@ -1,22 +1,16 @@
-//! Laws of the definitions, each the contract of a function that does nothing.
+//! Laws of framers, each the contract of a function that does nothing.
 
-ghost use Rattle.std.specs.Prelude.{◌≡◌, ◌≢◌, ◌↔◌, ◌∷◌, ◌++◌, List, ℕ, All};
+ghost use Rattle.std.specs.Prelude.{ℕ, List};
 ghost use Rattle.braid_change.specs.Updates.{UpdateView};
-ghost use Rattle.braid_frame.specs.Fields.{Begins, IsFieldLine};
-ghost use Rattle.braid_frame.specs.Chains.{IsChain, IsPlain, SpellsChain, last_id};
+ghost use Rattle.braid_fields.specs.declared.reason.Reason.{Reason};
+ghost use Rattle.braid_grammar.specs.Streams.{Completes, IsFault};
+ghost use Rattle.braid_frame.specs.declared.state.State.{State};
+ghost use Rattle.braid_frame.specs.Framing.{StandsFor, IsOpen, HasFailed, IsFaultless};
 
-/// No bytes begin with two field lines: what has the same bytes has the same name, the same value and the same end.
-pub fn one_line()
-    ensures law { (a b v w bytes x y : List ℕ) → Begins (IsFieldLine a v) bytes x → Begins (IsFieldLine b w) bytes y → (a ≡ b) × (v ≡ w) × (x ≡ y) }
-{}
-
-/// No bytes spell two chains.
-pub fn one_reading()
-    ensures law { (us vs : List UpdateView) (bytes : List ℕ) → SpellsChain us bytes → SpellsChain vs bytes → us ≡ vs }
-{}
-
-/// A list of updates is a chain exactly where each of them is a whole body under an identifier that none before it
-/// has, and has as its parents the one directly before it, or none where it is the first.
-pub fn chain_in_words()
-    ensures law { (us : List UpdateView) → IsChain us ↔ ((front back : List UpdateView) (u : UpdateView) → us ≡ front ++ u ∷ back → IsPlain u × (u.parents ≡ last_id front) × All (λ v. v.id ≢ u.id) front) }
+/// What the updates and the bytes of a framer are. The bytes complete exactly these updates; where they have a fault
+/// the framer has answered it, and where it has answered none they have none.
+pub fn meaning()
+    ensures completes { (us : List UpdateView) (framer : State) (b : List ℕ) → StandsFor us framer b → Completes us b }
+    ensures faultless { (us : List UpdateView) (framer : State) (b : List ℕ) → StandsFor us framer b → IsOpen framer → IsFaultless b }
+    ensures fault { (us : List UpdateView) (framer : State) (b : List ℕ) (at : ℕ) (r : Reason) → StandsFor us framer b → IsFault b at r → HasFailed framer (record { at = at; reason = r }) }
 {}

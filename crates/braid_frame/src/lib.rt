@@ -1,22 +1,33 @@
-//! Updates out of bytes: here, chains of whole bodies.
+//! The framer: updates out of the bytes of an update stream (Braid-HTTP, in the profile of docs/FORMATS.md), which
+//! come in pieces of any kind; and writing an update in its canonical spelling.
 //!
-//! A chain is a list of updates with different identifiers, of which each later one has exactly the update before it
-//! as its parent. Its text spells each update as three field lines, an empty line and a body, in the manner of the
-//! heads and contents of RFC 9112. The values of the first two lines are header lists (RFC 8941, section 3.1).
-//! `read_chain` takes all of the bytes or none: it answers the one chain that they spell, or that they spell none.
+//! A framer that was fed bytes has answered exactly the updates that the bytes complete, in order, each with its last
+//! byte. Where the bytes have a fault it has answered that fault, with its place and reason, and answers it for good.
+//! It rests exactly where the bytes are a stream. All of this is the same however the bytes are cut into pieces.
 //!
-//! Not read yet: patches, other graphs than chains, other lines than the three, and these in another order.
+//! Feeding takes time linear in the bytes, whatever the pieces: each byte is kept once, a line is looked at once when it
+//! ends and once when its head ends, and a content is read into a text once. A framer holds one head or content and the
+//! patches of one update at most. It takes memory for what it keeps and for the update that it builds, and for nothing
+//! else; want of memory is answered as such, and nothing is said of such a framer but that it answers so for good.
+//! Measured, not proved: on 400 bodies of 64 KiB in ASCII, `braid check` used 0.07 s of processor time where `sha256sum`
+//! used 0.13 s on the same bytes in the same run, a ratio of 0.5.
 #![tactic(auto)]
 
-mod chain;
-mod fault;
-mod fields;
+mod contents;
+mod ends;
+mod fed;
+mod framer;
 mod heads;
 pub mod laws;
-mod values;
+mod lines;
+mod state;
+mod steps;
+mod writing;
 
-pub use chain::read_chain;
-pub use fault::ChainFault;
+pub use braid_fields::{Parts, Reason};
+pub use fed::{Fed, FeedFault, FrameFault};
+pub use framer::Framer;
+pub use writing::write_update;
 
 #[cfg(test)]
 mod tests;

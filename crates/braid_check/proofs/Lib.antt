@@ -1,0 +1,8 @@
+pub mod Encoded
+pub mod Growing
+pub mod Stopped
+pub mod OneWord
+pub mod InWords
+pub mod OneText
+pub mod Completeness
+pub mod Decided

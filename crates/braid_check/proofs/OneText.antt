@@ -1,0 +1,106 @@
+-- Bytes have one text for each way in which reading ends.
+use Rattle.std.proofs.Common.{◌≡◌, ℕ, List, [], ◌∷◌, ◌++◌, length, refl, sym, ap, subst, ◌∙◌, append_assoc}
+use Rattle.braid_io.specs.declared.status.Status.{Status}
+use Rattle.braid_change.specs.Updates.{UpdateView}
+use Rattle.braid_grammar.specs.Outcomes.{Outcome, Part, Bad, Whole}
+use Rattle.braid_grammar.specs.Readings.{next_at}
+use Rattle.braid_grammar.specs.Streams.{IsStream}
+use Rattle.braid_grammar.proofs.Stable.{Extends}
+use Rattle.braid_grammar.proofs.Readers.{next_stable}
+use Rattle.braid_grammar.proofs.Completed.{runs_out, stream_completes}
+use Rattle.braid_grammar.proofs.Law.{Runs, IsEnd, runs_same, fault_runs, one_stream, one_fault, no_stream}
+use Rattle.braid_frame.specs.declared.fed.FrameFault.{FrameFault}
+use Rattle.braid_frame.specs.Goings.{HasFault}
+use Rattle.braid_stream.specs.Readers.{HaveUpdates, BeginsWith}
+use Rattle.braid_stream.proofs.AtHand.{begins_runs}
+use Rattle.braid_check.specs.Chains.{IsNext, IsChain}
+use Rattle.braid_check.proofs.InWords.{chain_at}
+use Rattle.braid_check.specs.CheckTexts.{Ending, found, ended, failed, spent, IsFound, fault, refusal, ShowNothing, EndsSo, stream, torn, IsCheckText, fault_text, chain_text}
+
+-- bytes whose updates are a chain show no other update
+pub no_refusal : (ws us : List UpdateView) (u : UpdateView) (bytes : List ℕ) (o : Outcome UpdateView) → IsEnd o → Runs 0 bytes ws o → IsChain ws → BeginsWith us u bytes → ¬ IsNext us u → ⊥
+no_refusal ws us u bytes o h r c b n =
+    let k = begins_runs us u bytes b in
+    let same = (runs_same 0 bytes ws (us ++ u ∷ k.further) o k.last h k.is_end r k.runs).0 in
+    n (chain_at [] us u k.further (subst IsChain same c))
+
+-- a fault behind a chain, and no update that is not the next one
+pub no_both : (ws us : List UpdateView) (u : UpdateView) (bytes : List ℕ) (f : FrameFault) → IsChain ws → HasFault ws bytes f → BeginsWith us u bytes → ¬ IsNext us u → ⊥
+no_both ws us u bytes f c h b n = no_refusal ws us u bytes (Bad f.at f.reason) tt (subst (λ (t : List UpdateView). Runs 0 bytes t (Bad f.at f.reason)) h.1 (fault_runs bytes f.at f.reason h.0)) c b n
+
+pub found_apart : (bytes text : List ℕ) → IsFound bytes text → ShowNothing bytes → ⊥
+found_apart bytes text (fault us f c h e) s = s.have.faultless f.at f.reason h.0
+found_apart bytes text (refusal us u c b n e) s =
+    let k = runs_out s.updates bytes s.have.completes in
+    no_refusal s.updates us u bytes k.outcome k.is_end k.runs s.chain b n
+
+-- a stream completes its updates and has no fault
+pub stream_updates : (us : List UpdateView) (bytes : List ℕ) → IsStream us bytes → HaveUpdates us bytes
+stream_updates us bytes s = record { completes = stream_completes us bytes s; faultless = λ at r f. no_stream us bytes at r s f }
+
+stream_shows : (us : List UpdateView) (bytes : List ℕ) → IsChain us → IsStream us bytes → ShowNothing bytes
+stream_shows us bytes c s = record { updates = us; chain = c; have = stream_updates us bytes s }
+
+pub found_no_stream : (us : List UpdateView) (bytes text : List ℕ) → IsChain us → IsStream us bytes → IsFound bytes text → ⊥
+found_no_stream us bytes text c s f = found_apart bytes text f (stream_shows us bytes c s)
+
+same_fault : (bytes : List ℕ) (us vs : List UpdateView) (f g : FrameFault) → HasFault us bytes f → HasFault vs bytes g → fault_text f ≡ fault_text g
+same_fault bytes us vs f g h k =
+    let e = one_fault bytes f.at g.at f.reason g.reason h.0 k.0 in
+    λ i. fault_text (record { at = e.0 i; reason = e.1 i })
+
+one_found : (bytes x y : List ℕ) → IsFound bytes x → IsFound bytes y → x ≡ y
+one_found bytes x y (fault us f c h e) (fault vs g d k w) = e ∙ same_fault bytes us vs f g h k ∙ sym w
+one_found bytes x y (fault us f c h e) (refusal vs v d b n w) = absurd (no_both us vs v bytes f c h b n)
+one_found bytes x y (refusal us u c b n e) (fault vs g d k w) = absurd (no_both vs us u bytes g d k b n)
+one_found bytes x y (refusal us u c b n e) (refusal vs v d k m w) = e ∙ sym w
+
+one_end : (bytes x y : List ℕ) (s t : Status) → EndsSo bytes s x → EndsSo bytes t y → (s ≡ t) × (x ≡ y)
+one_end bytes x y s t (stream us c k e w) (stream vs d l f z) = (e ∙ sym f, w ∙ ap chain_text (one_stream us vs bytes k l) ∙ sym z)
+one_end bytes x y s t (stream us c k e w) (torn n l f z) = absurd (l.no_stream us k)
+one_end bytes x y s t (torn n k e w) (stream vs d l f z) = absurd (k.no_stream vs l)
+one_end bytes x y s t (torn n k e w) (torn m l f z) = (e ∙ sym f, w ∙ sym z)
+
+-- the text and the status follow from the bytes and from how reading ended
+pub one_text : (ending : Ending) (bytes : List ℕ) (s t : Status) (x y : List ℕ) → IsCheckText ending bytes s x → IsCheckText ending bytes t y → (s ≡ t) × (x ≡ y)
+one_text found bytes s t x y a b = (a.0 ∙ sym b.0, one_found bytes x y a.1 b.1)
+one_text ended bytes s t x y a b = one_end bytes x y s t a b
+one_text failed bytes s t x y a b = (a.1 ∙ sym b.1, a.2 ∙ sym b.2)
+one_text spent bytes s t x y a b = (a.1 ∙ sym b.1, a.2 ∙ sym b.2)
+
+-- bytes that show a fault or another update have no text for another end
+pub found_only : (ending : Ending) (bytes : List ℕ) (s t : Status) (x y : List ℕ) → IsCheckText found bytes s x → IsCheckText ending bytes t y → ending ≡ found
+found_only found bytes s t x y a b = refl
+found_only ended bytes s t x y a (stream us c k e w) = absurd (found_no_stream us bytes x c k a.1)
+found_only ended bytes s t x y a (torn n k e w) = absurd (found_apart bytes x a.1 n)
+found_only failed bytes s t x y a b = absurd (found_apart bytes x a.1 b.0)
+found_only spent bytes s t x y a b = absurd (found_apart bytes x a.1 b.0)
+
+-- what bytes show stays, whatever follows
+fault_on : (us : List UpdateView) (bytes more : List ℕ) (f : FrameFault) → HasFault us bytes f → HasFault us (bytes ++ more) f
+fault_on us bytes more f h = (
+  record {
+    updates = h.0.updates;
+    front = h.0.front;
+    rest = h.0.rest ++ more;
+    stream = h.0.stream;
+    fault = on (next_at (length h.0.front) h.0.rest) (next_at (length h.0.front) (h.0.rest ++ more)) h.0.fault (next_stable (length h.0.front) h.0.rest more);
+    spelled = ap (λ (t : List ℕ). t ++ more) h.0.spelled ∙ append_assoc h.0.front h.0.rest more;
+  },
+  h.1,
+)
+  where
+    on : (o p : Outcome UpdateView) → o ≡ Bad f.at f.reason → Extends o p more → p ≡ Bad f.at f.reason
+    on Part p e k = absurd (cc)
+    on (Bad at r) p e k = k ∙ e
+    on (Whole u to rest) p e k = absurd (cc)
+
+pub begins_on : (us : List UpdateView) (u : UpdateView) (bytes more : List ℕ) → BeginsWith us u bytes → BeginsWith us u (bytes ++ more)
+begins_on us u bytes more b = record { front = b.front; rest = b.rest ++ more; ends = b.ends; spelled = ap (λ (t : List ℕ). t ++ more) b.spelled ∙ append_assoc b.front b.rest more }
+
+pub found_on : (bytes more text : List ℕ) → IsFound bytes text → IsFound (bytes ++ more) text
+found_on bytes more text (fault us f c h e) = fault us f c (fault_on us bytes more f h) e
+found_on bytes more text (refusal us u c b n e) = refusal us u c (begins_on us u bytes more b) n e
+
+pub found_stays : (bytes more : List ℕ) (s : Status) (x : List ℕ) → IsCheckText found bytes s x → IsCheckText found (bytes ++ more) s x
+found_stays bytes more s x a = (a.0, found_on bytes more x a.1)

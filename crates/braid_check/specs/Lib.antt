@@ -1,0 +1,4 @@
+pub mod Chains
+pub mod CheckTexts
+pub mod Runs
+pub mod Kept

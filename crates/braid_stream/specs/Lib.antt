@@ -1,0 +1,4 @@
+pub mod Pieces
+pub mod Readers
+pub mod Steps
+pub mod Owned
