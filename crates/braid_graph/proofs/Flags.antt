@@ -80,7 +80,7 @@ is_parent_push : (es : List GraphEntry) (e : GraphEntry) (v : List ℕ) → is_p
 is_parent_push [] e v = or_false (has_id v e.parents)
 is_parent_push (d ∷ es) e v = ap (λ (b : Bool). has_id v d.parents || b) (is_parent_push es e v) ∙ or_assoc (has_id v d.parents) (is_parent es v) (has_id v e.parents)
 
-is_head_push : (es : List GraphEntry) (e : GraphEntry) (v : List ℕ) → is_head (es ++ e ∷ []) v ≡ (is_head es v && not (has_id v e.parents))
+pub is_head_push : (es : List GraphEntry) (e : GraphEntry) (v : List ℕ) → is_head (es ++ e ∷ []) v ≡ (is_head es v && not (has_id v e.parents))
 is_head_push es e v = ap not (is_parent_push es e v) ∙ not_or (is_parent es v) (has_id v e.parents)
 
 -- the flag at the place of p is taken back, where no other place has p

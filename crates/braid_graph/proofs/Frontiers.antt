@@ -10,7 +10,7 @@ use Rattle.braid_graph.proofs.Newest.{entry_id, id_entry, one_number}
 use Rattle.braid_graph.proofs.Flags.{head_no_parent, no_parent_head}
 use Rattle.braid_ids.proofs.Inserted.{AllDistinct, member_rising, member_from_rising, length_rising, rises_ids}
 
-distinct_from : (vs : List (List ℕ)) → ((v : List ℕ) (i j : ℕ) → slice_get vs i ≡ Some v → slice_get vs j ≡ Some v → i ≡ j) → AllDistinct vs
+pub distinct_from : (vs : List (List ℕ)) → ((v : List ℕ) (i j : ℕ) → slice_get vs i ≡ Some v → slice_get vs j ≡ Some v → i ≡ j) → AllDistinct vs
 distinct_from [] one = tt
 distinct_from (v ∷ vs) one = (
   λ m. let r = place_of vs v m in let z = one v zero (suc r.0) refl r.1 in omega arith,
@@ -36,7 +36,7 @@ filter_member p v (w ∷ ws) m h = go (p w) refl m (λ k. filter_member p v ws k
     go false e (inl a) ih = absurd (let t = subst (λ (t : List ℕ). p t ≡ true) (sym a) h in cc)
     go false e (inr m) ih = ih m
 
-distinct_filter : (p : List ℕ → Bool) (vs : List (List ℕ)) → AllDistinct vs → AllDistinct (filter p vs)
+pub distinct_filter : (p : List ℕ → Bool) (vs : List (List ℕ)) → AllDistinct vs → AllDistinct (filter p vs)
 distinct_filter p [] d = tt
 distinct_filter p (v ∷ vs) d = go (p v) (distinct_filter p vs d.1)
   where

@@ -10,3 +10,4 @@ pub mod Collected
 pub mod Marked
 pub mod Unheld
 pub mod Orders
+pub mod Widths

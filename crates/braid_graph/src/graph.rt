@@ -1,11 +1,12 @@
-ghost use Rattle.std.specs.Prelude.{◌≡◌, ◌<◌, ◌≤◌, ◌++◌, ◌∷◌, ◌+◌, ◌↔◌, ◌⊎◌, [], List, ℕ, Some, false, length, replicate, reverse, slice_get, Contains, IfOk, IfErr, OnOk, OnErr, IfSome, IfNone, IsTrue, vec_len};
+ghost use Rattle.std.specs.Prelude.{◌≡◌, ◌<◌, ◌≤◌, ◌++◌, ◌∷◌, ◌+◌, ◌↔◌, ◌⊎◌, [], List, ℕ, Some, false, filter, length, replicate, reverse, slice_get, Contains, IfOk, IfErr, OnOk, OnErr, IfSome, IfNone, IsTrue, vec_len};
 ghost use Rattle.std.specs.List.{AllZip};
 ghost use Rattle.std.specs.Option.{option_map, option_copied};
+ghost use Rattle.braid_ids.specs.Frontiers.{IsRising};
 ghost use Rattle.braid_ids.specs.MarkSets.{IsMarked};
 ghost use Rattle.braid_graph.specs.Entries.{GraphEntry, ids_of, Holds, HoldsAll, IsHistoryGraph};
 ghost use Rattle.braid_graph.specs.Ancestries.{Covers, MarksAncestry, IsLeastUnheld, IsUnknown, NamesUnknown};
 ghost use Rattle.braid_graph.specs.Levels.{greatest_by, level_of};
-ghost use Rattle.braid_graph.specs.Frontiers.{IsFrontierOf, frontier_of, heads_of};
+ghost use Rattle.braid_graph.specs.Frontiers.{IsFrontierOf, frontier_of, heads_of, is_head};
 ghost use Rattle.braid_graph.specs.Inside.{IsNumberOf, IsParentNumber, MarksMembers, AllMarked, IsLeastOf, lesser_of};
 
 use crate::heads::Heads;
@@ -137,6 +138,38 @@ impl Graph {
         ensures width { result ≡ length (frontier_of self.now) }
     {
         self.heads.count()
+    }
+
+    /// How many identifiers will be no entry's parent, once a new entry with these parents is there.
+    /// It takes no memory and time linear in the parents.
+    pub fn width_after(&self, parents: &Frontier) -> u32
+        requires held { HoldsAll self.now parents.now }
+        ensures width { (id : List ℕ) → ¬ (Holds self.now id)
+            → result ≡ length (frontier_of (self.now ++ record { id = id; parents = parents.now } ∷ [])) }
+    {
+        let heads = self.heads_among(parents);
+        self.width() - heads + 1
+    }
+
+    /// How many of these identifiers are no entry's parent.
+    fn heads_among(&self, of: &Frontier) -> u32
+        requires held { HoldsAll self.now of.now }
+        ensures count { result ≡ length (filter (is_head self.now) of.now) }
+        ensures rising { IsRising of.now }
+        ensures history { IsHistoryGraph self.now }
+        ensures few { length self.now ≤ 524288 }
+    {
+        let mut count = 0;
+        for i in 0..of.len() {
+            let Some(id) = of.get(i) else { unreachable!() };
+            let Some(n) = self.index_of(id) else {
+                unreachable!()
+            };
+            if self.heads.has(n) {
+                count += 1;
+            }
+        }
+        count
     }
 
     /// The set of the identifiers that are no entry's parent.

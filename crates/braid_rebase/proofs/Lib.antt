@@ -6,3 +6,7 @@ pub mod Weave
 pub mod Splice
 pub mod Spliced
 pub mod Counted
+pub mod Joins
+pub mod RunLists
+pub mod Resolves
+pub mod Stands

@@ -10,7 +10,11 @@ ghost use Rattle.braid_tree.specs.Keys.{Key, key_cmp, key_in};
 ghost use Rattle.braid_tree.specs.Nodes.{Node, path_of, IsReading, with_nodes, run};
 ghost use Rattle.braid_tree.specs.Elements.{element_of};
 ghost use Rattle.braid_tree.specs.Trees.{IsTree, AreDistinct, AreNewKeys};
-ghost use Rattle.braid_rebase.specs.Additions.{chars_of, origin_at, nodes_at, deleted_at, key_of, added_nodes, deleted_keys, seen_after, AreUnder, IsDeletedAt};
+ghost use Rattle.braid_rebase.specs.Additions.{chars_of, origin_at, nodes_at, deleted_at, ranges_at, key_of, added_nodes, deleted_keys, seen_after, AreUnder, IsDeletedAt};
+ghost use Rattle.braid_graph.specs.Entries.{GraphEntry};
+ghost use Rattle.braid_tree.specs.Rows.{Stamp, Row, RowDeletion, element_at, key_at};
+ghost use Rattle.braid_rebase.specs.Resolved.{IsSeenAt, places_of, row_ranges, runs_at, places_at};
+ghost use Rattle.braid_rebase.specs.Standing.{AreRunsOf};
 ghost use Rattle.braid_rebase.specs.Worked.{abc, patch, text_after, three_patches};
 
 /// What a version of a higher level adds to the nodes that its parents see, and what it deletes of them, make the splice
@@ -46,6 +50,19 @@ pub fn ranges_are_deleted()
 /// The nodes of a version with new keys and a higher level leave a tree.
 pub fn leaves_a_tree()
     ensures law { (level : ℕ) (id : List ℕ) (S : List (Node Key)) (change : Change) (d : List (Node Key)) → IsTree key_cmp d → AreNewKeys (key_in level id) 0 d → ((x : Node Key) → Contains S x → Contains d x) → AreUnder level S → IsTree key_cmp (with_nodes key_cmp (added_nodes level id S change) d) }
+{}
+
+/// The rows that the ancestry of a frontier sees are one list.
+pub fn one_view()
+    ensures law { (es : List GraphEntry) (F : List (List ℕ)) (deletions : List RowDeletion) (rows S T : List Row) → IsSeenAt es F deletions rows S → IsSeenAt es F deletions rows T → S ≡ T }
+{}
+
+/// Where the seen rows list nodes, an update is resolved to what the definitions say that it adds to the nodes: the
+/// ranges are those in the nodes, each run is that of its range, and the places deleted are those of the deleted keys.
+pub fn resolves_what_is_added()
+    ensures ranges { (vs : List Stamp) (S : List Row) (N : List (Node Key)) (change : Change) → map (element_at vs) S ≡ map element_of N → row_ranges S change ≡ ranges_at N change }
+    ensures runs { (vs : List Stamp) (S : List Row) (N : List (Node Key)) (change : Change) → map (element_at vs) S ≡ map element_of N → IsShaped change → AreRunsOf vs N 0 (runs_at (places_of S) 0 (row_ranges S change)) (ranges_at N change) }
+    ensures deletes { (vs : List Stamp) (S : List Row) (N : List (Node Key)) (change : Change) → map (element_at vs) S ≡ map element_of N → map (key_at vs) (places_at (places_of S) (row_ranges S change)) ≡ deleted_keys N change }
 {}
 
 /// What a version adds to a short text.

@@ -6,7 +6,17 @@
 //! laws say so for every list of elements in reading order. The patches and their splice are those of Range Patch of the
 //! Braid drafts; the elements are those of `braid_tree`.
 //!
-//! Nothing here knows which versions there are: what the parents see is given as a list.
+//! `resolve` finds this over any document: what its update adds is given by places, so it can be put in with no further
+//! look at the parents. The definitions know no versions: what the parents see is given as a list of nodes or of rows.
 #![tactic(auto)]
 
 pub mod laws;
+mod ranges;
+mod resolving;
+mod run;
+
+pub use resolving::{RebaseFault, Resolved, resolve};
+pub use run::Run;
+
+#[cfg(test)]
+mod tests;

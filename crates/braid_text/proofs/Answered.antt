@@ -80,7 +80,7 @@ abbrev pub IsOverAnswer : Room → Room → Option Accept → Type 0
 IsOverAnswer need room None = HasRoom need room
 IsOverAnswer need room (Some a) = (which : Which) × (n : ℕ) × (left : ℕ) × (a ≡ Full which n left) × IsOver need room which n left
 
-over_is : (need room : Room) → IsOverAnswer need room (over need room)
+pub over_is : (need room : Room) → IsOverAnswer need room (over need room)
 over_is need room = versions (nat_lt room.versions need.versions) refl
   where
     width : (b : Bool) → nat_lt room.width need.width ≡ b → need.versions ≤ room.versions → need.elements ≤ room.elements → need.deletions ≤ room.deletions

@@ -12,3 +12,8 @@ pub mod Alike
 pub mod Public
 pub mod Rows
 pub mod Past
+pub mod Putting
+pub mod Viewed
+pub mod Grown
+pub mod Taking
+pub mod Digests

@@ -5,3 +5,7 @@ pub mod Answers
 pub mod Alike
 pub mod Sent
 pub mod Worked
+pub mod Puts
+pub mod Standing
+pub mod Judging
+pub mod Digested

@@ -21,6 +21,7 @@ ghost use Rattle.braid_text.specs.Histories.{graph_of, SameGraph, AreCompatible,
 ghost use Rattle.braid_text.specs.Documents.{IsDocument, IsSeen};
 ghost use Rattle.braid_text.specs.Answers.{needs_of, room_of, answer_to, HasRoom, IsAnswer};
 ghost use Rattle.braid_text.specs.Alike.{AreAlike};
+ghost use Rattle.braid_text.specs.Digested.{id_in, by_identifier, digest_at};
 ghost use Rattle.braid_text.specs.Sent.{sent};
 ghost use Rattle.braid_text.specs.Worked.{x_1, p_1, q_1, r_1, p_deletes, a_1, b_1, m_1, a_other, x_hello, y_1, z_1, room_for};
 ghost use Rattle.braid_text.specs.declared.accept.Accept.{Accept};
@@ -134,6 +135,14 @@ pub fn order_does_not_matter()
 pub fn sent_law()
     ensures exact { (H : List UpdateView) → IsLegal H → (F : List (List ℕ)) → HoldsAll (graph_of H) F → (u : UpdateView) → Contains (sent H F) u ↔ (Contains H u × ¬ (IsAncestor (graph_of H) F u.id)) }
     ensures more { (H : List UpdateView) (F : List (List ℕ)) (u : UpdateView) → IsLegal H → HoldsAll (graph_of H) F → ¬ (Holds (graph_of H) u.id) → sent (H ++ u ∷ []) F ≡ sent H F ++ u ∷ [] }
+{}
+
+/// The updates by rising identifier are those of the history, and rise; so legal histories of the same updates have one
+/// digest.
+pub fn one_digest()
+    ensures exact { (H : List UpdateView) → IsLegal H → (u : UpdateView) → Contains (by_identifier H) u ↔ Contains H u }
+    ensures rising { (H : List UpdateView) → IsRising (map id_in (by_identifier H)) }
+    ensures law { (H K : List UpdateView) → IsLegal H → IsLegal K → SameGraph H K → digest_at H ≡ digest_at K }
 {}
 
 /// What is read of small histories, in each order of arrival.

@@ -16,3 +16,4 @@ pub mod KeptRows
 pub mod Callers
 pub mod SeenRows
 pub mod Deletions
+pub mod Windows

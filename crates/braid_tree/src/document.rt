@@ -1,4 +1,4 @@
-ghost use Rattle.std.specs.Prelude.{◌≡◌, ◌+◌, ◌-◌, ◌<◌, ◌≤◌, ◌^◌, ◌++◌, ◌∷◌, [], List, IfOk, OnOk, MatchOption, Contains, length, map, slice_get};
+ghost use Rattle.std.specs.Prelude.{◌≡◌, ◌+◌, ◌-◌, ◌<◌, ◌≤◌, ◌^◌, ◌++◌, ◌∷◌, [], List, IfOk, OnOk, MatchOption, Contains, length, map, take, drop, slice_get};
 ghost use Rattle.std.specs.Option.{option_map};
 ghost use Rattle.braid_tree.specs.Rows.{Stamp, Row, RowDeletion, DocumentRoom, HasPlace, AreNewOrdinals, AreKnown, PutsRun, PutsOne, ListsWithRun, HasRoomFor, Spends};
 ghost use Rattle.braid_tree.specs.Seen.{seen_rows, place_in, char_in};
@@ -96,6 +96,20 @@ pub trait Document: Drop {
     /// more than `n`.
     fn visible_at(&self, marks: &Marks, n: u32) -> Option<At>
         ensures value { result ≡ option_map place_in (slice_get (seen_rows marks.now (removed self.now) (rows self.now)) n) };
+
+    /// The places of the elements from number `from` up to and without number `to`, counted from 0, of those that the
+    /// marked versions see. Past the last there are none.
+    ///
+    /// Errors: `Memory` where there was none for them.
+    fn visible_between(
+        &self,
+        alloc: Global,
+        marks: &Marks,
+        from: u32,
+        to: u32,
+    ) -> Result<Vec<At>, Memory>
+        ensures ok { IfOk result (λ places. places.items
+            ≡ take (to - from) (drop from (map place_in (seen_rows marks.now (removed self.now) (rows self.now))))) };
 
     /// The characters of the elements that the marked versions see.
     ///

@@ -6,7 +6,7 @@ use crate::document::Document;
 use crate::removal::Removal;
 use crate::row::{PlainRow, index_of, landing, put_run};
 use crate::version::Version;
-use crate::visible::{count_visible, nth_visible, visible_text};
+use crate::visible::{count_visible, nth_visible, visible_places, visible_text};
 use braid_ids::{Id, Marks, Memory};
 use std::alloc::Global;
 use std::marker::Model;
@@ -105,6 +105,16 @@ impl Document for PlainDocument {
 
     fn visible_at(&self, marks: &Marks, n: u32) -> Option<At> {
         nth_visible(marks, &self.removals, &self.elements, n)
+    }
+
+    fn visible_between(
+        &self,
+        alloc: Global,
+        marks: &Marks,
+        from: u32,
+        to: u32,
+    ) -> Result<Vec<At>, Memory> {
+        visible_places(alloc, marks, &self.removals, &self.elements, from, to)
     }
 
     fn text(&self, alloc: Global, marks: &Marks) -> Result<Vec<char>, Memory> {

@@ -1,4 +1,4 @@
-ghost use Rattle.std.specs.Prelude.{◌≡◌, ◌<◌, ◌^◌, All, IfOk, length, map, slice_get};
+ghost use Rattle.std.specs.Prelude.{◌≡◌, ◌-◌, ◌<◌, ◌^◌, All, IfOk, length, map, take, drop, slice_get};
 ghost use Rattle.std.specs.Option.{option_map};
 ghost use Rattle.braid_tree.specs.Seen.{seen_rows, place_in, char_in};
 ghost use Rattle.braid_tree.specs.Inside.{rows_in, deletions_in, AreLinked, IsNewest};
@@ -42,6 +42,37 @@ pub fn nth_visible(marks: &Marks, removals: &[Removal], rows: &[PlainRow], n: u3
         }
     }
     None
+}
+
+/// The places of the elements from number `from` up to and without number `to` of those that marked versions see.
+pub fn visible_places(
+    alloc: Global,
+    marks: &Marks,
+    removals: &[Removal],
+    rows: &[PlainRow],
+    from: u32,
+    to: u32,
+) -> Result<Vec<At>, Memory>
+    requires linked { AreLinked removals.now }
+    requires newest { All (IsNewest removals.now) rows.now }
+    requires few { length rows.now < 2 ^ 32 }
+    ensures ok { IfOk result (λ places. places.items
+        ≡ take (to - from) (drop from (map place_in (seen_rows marks.now (deletions_in removals.now) (rows_in rows.now))))) }
+{
+    let mut places = Vec::new(alloc);
+    let mut number = 0;
+    for row in rows {
+        if number >= to {
+            break;
+        }
+        if is_visible(marks, removals, row) {
+            if number >= from {
+                places.push(row.at)?;
+            }
+            number += 1;
+        }
+    }
+    Ok(places)
 }
 
 /// The characters of the elements that marked versions see.

@@ -1,0 +1,117 @@
+ghost use Rattle.std.specs.Prelude.{◌≡◌, ◌+◌, ◌<◌, ◌^◌, List, IfOk, IfErr, length};
+ghost use Rattle.braid_graph.specs.Entries.{HoldsAll};
+ghost use Rattle.braid_graph.specs.Levels.{greatest_by, level_of};
+ghost use Rattle.braid_tree.specs.Rows.{Row};
+ghost use Rattle.braid_rebase.specs.declared.resolving.RebaseFault.TheVariants.{Memory as NoMemory};
+ghost use Rattle.braid_rebase.specs.Resolved.{IsSeenAt, IsResolved, IsRebaseFault};
+
+use crate::ranges::{ranges_of, reach};
+use crate::run::{Run, deletes_in, runs_in};
+use braid_change::Update;
+use braid_graph::Graph;
+use braid_ids::{Frontier, Memory};
+use braid_tree::{At, Document};
+use std::alloc::{AllocError, AllocFailed, Global};
+
+/// What an update adds to a document: it can be put in with no further look at the update's parents.
+#[derive(Debug, Drop)]
+pub struct Resolved {
+    /// The runs that the update inserts, in the order of their ordinals.
+    pub runs: Vec<Run>,
+    /// The elements that it deletes, in reading order.
+    pub deletes: Vec<At>,
+    /// The level of its version.
+    pub level: u32,
+}
+
+/// Why an update was not resolved.
+#[derive(Clone, Copy, Debug, PartialEq, Eq)]
+pub enum RebaseFault {
+    /// The first joined patch, counted from 0, that ends past the text at the parents, and that text's length.
+    OutOfRange { patch: u32, len: u32 },
+    /// There was no memory.
+    Memory,
+}
+
+impl From<Memory> for RebaseFault {
+    ghost from_gives = { λ _ e. e ≡ NoMemory };
+
+    fn from(_memory: Memory) -> RebaseFault {
+        RebaseFault::Memory
+    }
+}
+
+impl From<AllocError> for RebaseFault {
+    ghost from_gives = { λ _ e. e ≡ NoMemory };
+
+    fn from(_error: AllocError) -> RebaseFault {
+        RebaseFault::Memory
+    }
+}
+
+impl<T: Drop> From<AllocFailed<T>> for RebaseFault {
+    ghost from_gives = { λ _ e. e ≡ NoMemory };
+
+    fn from(_failed: AllocFailed<T>) -> RebaseFault {
+        RebaseFault::Memory
+    }
+}
+
+/// What an update adds to a document: its ranges count the characters that its parents see (Range Patch of the Braid
+/// drafts), and never those of the current text.
+///
+/// The graph holds the update's parents, and the document has the graph's versions in the same order. Both stay as
+/// they are.
+///
+/// It passes over the document's elements twice, whatever the number of ranges, and copies the places of the elements
+/// from the first range to the end of the last.
+///
+/// Errors: `OutOfRange` where a joined patch ends past the text at the parents, or `Memory`.
+pub fn resolve<D: Document>(
+    alloc: Global,
+    doc: &D,
+    graph: &Graph,
+    update: &Update,
+) -> Result<Resolved, RebaseFault>
+    requires held { HoldsAll graph.now update.now.parents }
+    ensures ok { IfOk result (λ resolved. (S : List Row)
+        × IsSeenAt graph.now update.now.parents (D.removed doc.now) (D.rows doc.now) S × IsResolved S update.now.change resolved) }
+    ensures level { IfOk result (λ resolved. resolved.level ≡ 1 + greatest_by (level_of graph.now) update.now.parents) }
+    ensures fault { IfErr result (λ fault. IsRebaseFault graph.now (D.removed doc.now) (D.rows doc.now) update.now fault) }
+{
+    let Ok(marks) = graph.ancestry(alloc, update.parents()) else {
+        return Err(RebaseFault::Memory);
+    };
+    let ranges = match ranges_of(alloc, update.change(), doc.len(&marks)) {
+        Ok(ranges) => ranges,
+        Err(fault) => return Err(fault),
+    };
+    let (first, end) = reach(&ranges);
+    let places = doc.visible_between(alloc, &marks, first, end)?;
+    let deletes = deletes_in(alloc, &places, first, &ranges)?;
+    let runs = runs_in(alloc, &places, first, ranges)?;
+    let level = level_above(graph, update.parents());
+    Ok(Resolved {
+        runs,
+        deletes,
+        level,
+    })
+}
+
+/// One level above the greatest of these versions.
+fn level_above(graph: &Graph, parents: &Frontier) -> u32
+    requires held { HoldsAll graph.now parents.now }
+    ensures level { result ≡ 1 + greatest_by (level_of graph.now) parents.now }
+{
+    let mut greatest = 0;
+    for i in 0..parents.len() {
+        let Some(id) = parents.get(i) else {
+            unreachable!()
+        };
+        let Some(n) = graph.index_of(id) else {
+            unreachable!()
+        };
+        greatest = greatest.max(graph.level(n));
+    }
+    greatest + 1
+}

@@ -1,0 +1,42 @@
+use Rattle.std.proofs.Common.{◌≡◌, ◌+◌, ◌-◌, ◌∙◌, ℕ, List, ◌∷◌, take, drop, length, arith, subst, sym, ap}
+use Rattle.braid_tree.specs.Rows.{Stamp, ListsWithRun, AreNewOrdinals, KeepsPlaces, PutsRun}
+use Rattle.braid_tree.proofs.Places.{keeps_put, next_put}
+use Rattle.braid_text.specs.Puts.{AreOver, ListsWithRuns, text_len, total_len}
+use Rattle.braid_text.proofs.Putting.{runs_more, over_more, runs_left, total_more}
+use Rattle.braid_text.proofs.adding.put_runs.Goals as goal
+
+pub loop-run-preserved : goal.loop-run-preserved
+loop-run-preserved g c =
+    let inv = c.loop-run.invariant in
+    let i = c.loop-run.run-index in
+    let runs = c.args.runs.now in
+    let r = c.run-item.result in
+    let rest = drop (i + 1) runs in
+    let vs = g.D.Document.stamps c.args.doc.now in
+    let before = g.D.Document.rows c.loop-run.doc in
+    let after = g.D.Document.rows c.insert_run.new.self in
+    let next : drop i runs ≡ r ∷ rest = runs_left runs i r c.loop-run-test.true c.run-item.is in
+    let more = total_more runs i r c.loop-run-test.true c.run-item.is in
+    let over : AreOver before (total_len (take i runs)) (r ∷ rest) = subst (AreOver before (total_len (take i runs))) next inv.over in
+    let long : length c.chars.result.now ≡ text_len r = ap length c.chars.ensures.value in
+    let put : PutsRun before after (length vs - 1) r.after r.ordinal r.text =
+    subst (λ (t : List ℕ). PutsRun before after (length vs - 1) r.after r.ordinal t) c.chars.ensures.value
+    (subst (λ (s : List Stamp). PutsRun before after (length s - 1) r.after r.ordinal c.chars.result.now) inv.same c.insert_run.ensures.put) in
+    let kept : KeepsPlaces before after = keeps_put before after (length vs - 1) r.after r.ordinal r.text put in
+    let placed : ListsWithRun vs before after r.after r.ordinal r.text =
+    subst (λ (t : List ℕ). ListsWithRun vs before after r.after r.ordinal t) c.chars.ensures.value
+    (subst (λ (s : List Stamp). ListsWithRun s before after r.after r.ordinal c.chars.result.now) inv.same c.insert_run.ensures.placed) in
+    record {
+      same = c.insert_run.ensures.stamps ∙ inv.same;
+      removed = c.insert_run.ensures.deletions ∙ inv.removed;
+      known = c.insert_run.ensures.known;
+      over = subst (λ (n : ℕ). AreOver after n rest) (sym more) (over_more before after (total_len (take i runs) + text_len r) rest kept over.2);
+      next = subst (AreNewOrdinals after (length vs - 1)) (ap (λ (n : ℕ). n + text_len r) over.1 ∙ sym more) (next_put before after (length vs - 1) r.after r.ordinal r.text put (subst (AreNewOrdinals before (length vs - 1)) (sym over.1) inv.next));
+      places = λ at h. kept at (inv.places at h);
+      room = record {
+        versions_left = omega (arith, inv.room.versions_left, c.insert_run.ensures.room.versions_left);
+        elements_left = omega (arith, inv.room.elements_left, c.insert_run.ensures.room.elements_left, more, long);
+        deletions_left = omega (arith, inv.room.deletions_left, c.insert_run.ensures.room.deletions_left);
+      };
+      left = λ new lists. inv.left new (subst (ListsWithRuns vs before new) (sym next) (runs_more vs before after new r rest placed lists));
+    }

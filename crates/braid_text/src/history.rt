@@ -1,0 +1,111 @@
+//! A history with its version graph and a document of its elements.
+
+ghost use Rattle.std.specs.Prelude.{◌≡◌, ◌≢◌, ◌+◌, ◌<◌, ◌≤◌, ◌++◌, ◌∷◌, [], Ok, Err, IfOk, IfErr, OnOk, OnErr, length, map, Contains};
+ghost use Rattle.braid_graph.specs.Ancestries.{IsUnknown};
+ghost use Rattle.braid_text.specs.Histories.{graph_of, text_at, elements_of, deletions_of};
+ghost use Rattle.braid_text.specs.Answers.{needs_of, IsAnswer};
+ghost use Rattle.braid_text.specs.Standing.{Stands, IsTakable};
+ghost use Rattle.braid_text.specs.declared.accept.Accept.TheVariants.{New, Known};
+
+use crate::accept::Accept;
+use crate::adding::add_version;
+use crate::judging::{answer_held, over, read_parts, text_len, unknown_parent};
+use crate::room::Room;
+use braid_change::{Text, Update};
+use braid_graph::Graph;
+use braid_ids::{Frontier, Memory, Unknown};
+use braid_rebase::{RebaseFault, Resolved, resolve};
+use braid_tree::Document;
+use std::alloc::Global;
+
+/// A history in order of arrival, its version graph, and the document of its elements.
+#[derive(Drop)]
+pub struct History<D: Document> {
+    pub updates: Vec<Update>,
+    pub graph: Graph,
+    pub document: D,
+}
+
+impl<D: Document> History<D> {
+    /// What an update adds where it can be taken, or the answer that it gets.
+    pub fn judge(&self, alloc: Global, update: &Update, room: &Room) -> Result<Resolved, Accept>
+        requires stands { Stands self.now.updates.items self.now.graph (D.stamps self.now.document) (D.rows self.now.document) (D.removed self.now.document) }
+        ensures ok { IfOk result (λ resolved. IsTakable self.now.updates.items (D.removed self.now.document) (D.rows self.now.document) room.now update.now resolved) }
+        ensures refusal { IfErr result (λ answer. IsAnswer room.now self.now.updates.items update.now answer × (answer ≢ New)) }
+        ensures known { Contains self.now.updates.items update.now → result ≡ Err Known }
+    {
+        if let Some(n) = self.graph.index_of(update.id()) {
+            let held = &self.updates[n as usize];
+            return Err(answer_held(alloc, held, update));
+        }
+        if let Some(id) = self.graph.least_unheld(update.parents()) {
+            return Err(unknown_parent(alloc, id));
+        }
+        let resolved = match resolve(alloc, &self.document, &self.graph, update) {
+            Ok(resolved) => resolved,
+            Err(RebaseFault::OutOfRange { patch, len }) => {
+                return Err(Accept::OutOfRange { patch, len });
+            }
+            Err(RebaseFault::Memory) => return Err(Accept::Memory),
+        };
+        read_parts(update);
+        let need = Room {
+            versions: 1,
+            elements: text_len(&resolved.runs) as u64,
+            deletions: resolved.deletes.len() as u64,
+            width: self.graph.width_after(update.parents()) as u64,
+        };
+        match over(&need, room) {
+            Some(full) => Err(full),
+            None => Ok(resolved),
+        }
+    }
+
+    /// Takes an update as it was resolved.
+    ///
+    /// Errors: `Memory` where there was none to grow; nothing is changed then.
+    pub fn take(
+        &mut self,
+        alloc: Global,
+        update: Update,
+        resolved: Resolved,
+        room: &Room,
+    ) -> Result<(), Memory>
+        requires stands { Stands self.old.updates.items self.old.graph (D.stamps self.old.document) (D.rows self.old.document) (D.removed self.old.document) }
+        requires takable { IsTakable self.old.updates.items (D.removed self.old.document) (D.rows self.old.document) room.now update resolved }
+        requires versions { length self.old.updates.items + room.now.versions ≤ 524288 }
+        requires elements { length (elements_of self.old.updates.items) + room.now.elements ≤ 33554432 }
+        requires deletions { length (deletions_of self.old.updates.items) + room.now.deletions ≤ 67108864 }
+        ensures taken { OnOk result (self.new.updates.items ≡ self.old.updates.items ++ update ∷ []) }
+        ensures kept { OnErr result (self.new.updates.items ≡ self.old.updates.items) }
+        ensures stands { Stands self.new.updates.items self.new.graph (D.stamps self.new.document) (D.rows self.new.document) (D.removed self.new.document) }
+    {
+        let name = update.id().copy(alloc)?;
+        let id = update.id().copy(alloc)?;
+        let parents = update.parents().copy(alloc)?;
+        self.document
+            .reserve(1, text_len(&resolved.runs), resolved.deletes.len() as u32)?;
+        self.updates.reserve(1)?;
+        self.graph.add(id, parents)?;
+        // From here on nothing can fail.
+        add_version(&mut self.document, name, &resolved);
+        self.updates.push_reserved(update);
+        Ok(())
+    }
+
+    /// What is read at a frontier.
+    pub fn read(&self, alloc: Global, at: &Frontier) -> Result<Text, Unknown>
+        requires stands { Stands self.now.updates.items self.now.graph (D.stamps self.now.document) (D.rows self.now.document) (D.removed self.now.document) }
+        ensures ok { IfOk result (λ text. text ≡ text_at self.now.updates.items at.now) }
+        ensures fault { IfErr result (λ unknown. IsUnknown (graph_of self.now.updates.items) at.now unknown) }
+    {
+        let marks = match self.graph.ancestry(alloc, at) {
+            Ok(marks) => marks,
+            Err(unknown) => return Err(unknown),
+        };
+        match self.document.text(alloc, &marks) {
+            Ok(chars) => Ok(Text::of(chars)),
+            Err(_) => Err(Unknown::Memory),
+        }
+    }
+}

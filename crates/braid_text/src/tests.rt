@@ -1,0 +1,275 @@
+//! Updates that are offered to a resource, and what it answers and reads.
+
+use super::*;
+use braid_change::{Change, ListPatch, Patch, Text, Update};
+use braid_ids::{Frontier, Id};
+use std::alloc::Global;
+use std::test::Fail;
+
+/// What an update does: a whole body, or one patch.
+#[derive(Clone, Copy)]
+enum Edit<'a> {
+    Body(&'a str),
+    Patch(u32, u32, &'a str),
+}
+
+/// The answer that is wanted.
+#[derive(Clone, Copy)]
+enum Want<'a> {
+    New,
+    Known,
+    Clash(&'a str),
+    Unknown(&'a str),
+    Past(u32, u32),
+    Full(Which, u64, u64),
+}
+
+/// An update that is offered: its name, its parents, what it does, and the answer that is wanted.
+#[derive(Clone, Copy)]
+struct Offer<'a> {
+    name: &'a str,
+    parents: &'a str,
+    edit: Edit<'a>,
+    want: Want<'a>,
+}
+
+fn new_offer<'a>(name: &'a str, parents: &'a str, edit: Edit<'a>) -> Offer<'a> {
+    Offer {
+        name,
+        parents,
+        edit,
+        want: Want::New,
+    }
+}
+
+fn check(holds: bool, what: &'static str) -> Result<(), Fail> {
+    if holds { Ok(()) } else { Err(what.into()) }
+}
+
+fn text_of(alloc: Global, text: &str) -> Result<Text, Fail> {
+    Ok(Text::read(alloc, text.as_bytes())?)
+}
+
+/// The set of the names between spaces.
+fn names_of(alloc: Global, names: &str) -> Result<Frontier, Fail> {
+    let mut ids = Vec::new(alloc);
+    for name in names.split_ascii_whitespace() {
+        ids.push(Id::read(alloc, name.as_bytes())?)?;
+    }
+    if ids.len() > 100 {
+        return Err("too many names".into());
+    }
+    Ok(Frontier::of(ids)?)
+}
+
+fn change_of(alloc: Global, edit: Edit<'_>) -> Result<Change, Fail> {
+    match edit {
+        Edit::Body(text) => Ok(Change::Body(text_of(alloc, text)?)),
+        Edit::Patch(start, end, text) => {
+            let text = text_of(alloc, text)?;
+            let patch = Patch { start, end, text };
+            Ok(Change::Patches(ListPatch::of(vec![in alloc; patch]?)))
+        }
+    }
+}
+
+fn update_of(alloc: Global, offer: &Offer<'_>) -> Result<Update, Fail> {
+    let id = Id::read(alloc, offer.name.as_bytes())?;
+    let parents = names_of(alloc, offer.parents)?;
+    let change = change_of(alloc, offer.edit)?;
+    if change.patches().len() > 9 {
+        return Err("too many patches".into());
+    }
+    Ok(Update::build(id, parents, change)?)
+}
+
+fn is_answer(answer: &Accept, want: Want<'_>) -> bool {
+    match (answer, want) {
+        (Accept::New, Want::New) => true,
+        (Accept::Known, Want::Known) => true,
+        (Accept::Clash { id }, Want::Clash(name)) => id.bytes() == name.as_bytes(),
+        (Accept::UnknownParent { id }, Want::Unknown(name)) => id.bytes() == name.as_bytes(),
+        (Accept::OutOfRange { patch, len }, Want::Past(n, end)) => *patch == n && *len == end,
+        (Accept::Full { which, need, room }, Want::Full(count, n, left)) => {
+            *which == count && *need == n && *room == left
+        }
+        _ => false,
+    }
+}
+
+/// Room for this many of each.
+fn room_for(n: u64) -> Room {
+    Room {
+        versions: n,
+        elements: n,
+        deletions: n,
+        width: n,
+    }
+}
+
+/// Offers an update to a small resource, and sees that the answer is the one that is wanted.
+fn give(alloc: Global, resource: &mut Resource, room: u64, row: &Offer<'_>) -> Result<(), Fail> {
+    let few = resource.entries() < 1000 && resource.elements() < 100_000;
+    if !few || resource.deletions() >= 100_000 || room >= 1000 {
+        return Err("not small".into());
+    }
+    let update = update_of(alloc, row)?;
+    let before = resource.entries();
+    let answer = resource.accept(alloc, update, &room_for(room));
+    check(is_answer(&answer, row.want), "the answer")?;
+    let more = match row.want {
+        Want::New => 1,
+        _ => 0,
+    };
+    check(resource.entries() == before + more, "the entries")
+}
+
+/// A resource that was given these updates.
+fn given(alloc: Global, rows: &[Offer<'_>]) -> Result<Resource, Fail> {
+    let mut resource = Resource::new(alloc);
+    for row in rows {
+        give(alloc, &mut resource, 100, row)?;
+    }
+    Ok(resource)
+}
+
+/// Whether a resource reads this text at its frontier.
+fn reads(alloc: Global, resource: &Resource, want: &str) -> Result<bool, Fail> {
+    let frontier = resource.frontier(alloc)?;
+    let Ok(text) = resource.read(alloc, &frontier) else {
+        return Ok(false);
+    };
+    Ok(text.same(&text_of(alloc, want)?))
+}
+
+/// Whether a resource reads this text at these versions.
+fn reads_at(alloc: Global, resource: &Resource, at: &str, want: &str) -> Result<bool, Fail> {
+    let at = names_of(alloc, at)?;
+    let Ok(text) = resource.read(alloc, &at) else {
+        return Ok(false);
+    };
+    Ok(text.same(&text_of(alloc, want)?))
+}
+
+/// Gives updates in two orders, and sees that both read one text and have one digest.
+fn check_orders(
+    alloc: Global,
+    one: &[Offer<'_>],
+    other: &[Offer<'_>],
+    want: &str,
+) -> Result<(), Fail> {
+    let one = given(alloc, one)?;
+    check(reads(alloc, &one, want)?, "the text")?;
+    let digest = one.digest(alloc)?;
+    drop(one);
+    let other = given(alloc, other)?;
+    check(reads(alloc, &other, want)?, "the text in the other order")?;
+    check(other.digest(alloc)? == digest, "the digest")
+}
+
+#[test]
+fn both_orders_of_arrival_read_one_text(rt: HostRuntime) -> Result<(), Fail> {
+    let x = new_offer("x-1", "", Edit::Body("ab"));
+    let p = new_offer("p-1", "x-1", Edit::Patch(1, 1, "P"));
+    let q = new_offer("q-1", "x-1", Edit::Patch(1, 1, "Q"));
+    let r = new_offer("r-1", "p-1 q-1", Edit::Patch(2, 2, "R"));
+    check_orders(rt.alloc(), &[x, p, q], &[x, q, p], "aQPb")?;
+    check_orders(rt.alloc(), &[x, p, q, r], &[x, q, p, r], "aQRPb")
+}
+
+#[test]
+fn a_deletion_leaves_what_was_typed_inside(rt: HostRuntime) -> Result<(), Fail> {
+    let x = new_offer("x-1", "", Edit::Body("ab"));
+    let p = new_offer("p-1", "x-1", Edit::Patch(0, 2, ""));
+    let q = new_offer("q-1", "x-1", Edit::Patch(1, 1, "Q"));
+    check_orders(rt.alloc(), &[x, p, q], &[x, q, p], "Q")
+}
+
+#[test]
+fn two_roots_are_merged(rt: HostRuntime) -> Result<(), Fail> {
+    let a = new_offer("a-1", "", Edit::Body("A"));
+    let b = new_offer("b-1", "", Edit::Body("B"));
+    let m = new_offer("m-1", "a-1 b-1", Edit::Patch(1, 1, "+"));
+    check_orders(rt.alloc(), &[a, b, m], &[b, a, m], "B+A")
+}
+
+/// A body replaces what is read, and the deleted elements stay.
+fn check_bodies(alloc: Global, resource: &Resource) -> Result<(), Fail> {
+    check(reads(alloc, resource, "c!")?, "the newest text")?;
+    check(reads_at(alloc, resource, "a-1", "ab")?, "the first text")?;
+    check(reads_at(alloc, resource, "a-2", "b")?, "the second text")?;
+    check(reads_at(alloc, resource, "", "")?, "no version")?;
+    check(
+        resource.elements() == 4 && resource.deletions() == 2,
+        "the counts",
+    )
+}
+
+#[test]
+fn a_body_replaces_what_is_read(rt: HostRuntime) -> Result<(), Fail> {
+    let rows = [
+        new_offer("a-1", "", Edit::Body("ab")),
+        new_offer("a-2", "a-1", Edit::Patch(0, 1, "")),
+        new_offer("a-3", "a-2", Edit::Body("c")),
+        new_offer("b-1", "a-2", Edit::Patch(1, 1, "!")),
+    ];
+    let resource = given(rt.alloc(), &rows)?;
+    check_bodies(rt.alloc(), &resource)
+}
+
+/// Offers with the room that each has, and the answers.
+fn check_answers(alloc: Global, rows: &[(u64, Offer<'_>)]) -> Result<(), Fail> {
+    let mut resource = Resource::new(alloc);
+    for (room, row) in rows {
+        give(alloc, &mut resource, *room, row)?;
+    }
+    Ok(())
+}
+
+fn wanted<'a>(name: &'a str, parents: &'a str, edit: Edit<'a>, want: Want<'a>) -> Offer<'a> {
+    Offer {
+        name,
+        parents,
+        edit,
+        want,
+    }
+}
+
+#[test]
+fn each_refusal_comes_in_its_order(rt: HostRuntime) -> Result<(), Fail> {
+    let hello = Edit::Body("hello");
+    let rows = [
+        (
+            0,
+            wanted("x-1", "", hello, Want::Full(Which::Versions, 1, 0)),
+        ),
+        (
+            4,
+            wanted("x-1", "", hello, Want::Full(Which::Elements, 5, 4)),
+        ),
+        (5, wanted("x-1", "", hello, Want::New)),
+        (0, wanted("x-1", "", hello, Want::Known)),
+        (0, wanted("x-1", "", Edit::Body("ho"), Want::Clash("x-1"))),
+        (0, wanted("y-1", "z-1 b-1 x-1", hello, Want::Unknown("b-1"))),
+        (
+            0,
+            wanted("y-1", "x-1", Edit::Patch(2, 6, ""), Want::Past(0, 5)),
+        ),
+        (
+            1,
+            wanted(
+                "y-1",
+                "x-1",
+                Edit::Patch(0, 2, ""),
+                Want::Full(Which::Deletions, 2, 1),
+            ),
+        ),
+        (2, wanted("y-1", "x-1", Edit::Patch(0, 2, ""), Want::New)),
+        (
+            1,
+            wanted("w-1", "", Edit::Body(""), Want::Full(Which::Width, 2, 1)),
+        ),
+        (2, wanted("w-1", "", Edit::Body(""), Want::New)),
+    ];
+    check_answers(rt.alloc(), &rows)
+}
