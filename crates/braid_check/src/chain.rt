@@ -1,4 +1,6 @@
-ghost use Rattle.std.specs.Prelude.{◌≡◌, ◌↔◌, ◌∷◌, ◌+◌, ◌≢◌, ◌≤◌, ◌++◌, [], List, ℕ, IsTrue, IfSome, IfNone, OnOk, MatchOption, length, option_copied};
+ghost use Rattle.std.specs.Prelude.{◌≡◌, ◌↔◌, ◌∷◌, ◌+◌, ◌≢◌, ◌≤◌, ◌++◌, [], List, ℕ, IsTrue, IfSome, IfNone, OnOk, MatchOption, length, nat_eq, option_copied};
+ghost use Rattle.std.specs.List.{list_any};
+ghost use Rattle.std.specs.Cmp.Lexicographic.{pointwise};
 ghost use Rattle.braid_change.specs.Updates.{UpdateView};
 ghost use Rattle.braid_change.specs.declared.change.Change.TheVariants as changes;
 
@@ -79,7 +81,7 @@ impl Chain {
             return None;
         };
         if self.is_last(update.parents())
-            && !self.ids.contains(update.id())
+            && !self.has(update.id())
             && self.ids.len() < MOST_UPDATES
             && len <= MOST_CHARACTERS - self.characters
         {
@@ -96,6 +98,13 @@ impl Chain {
             Some(update) => is_only(parents, update.id()),
             None => parents.len() == 0,
         }
+    }
+
+    /// Whether an update of the chain has this identifier.
+    fn has(&self, id: &Id) -> bool
+        ensures { result ≡ list_any (pointwise nat_eq id.now) self.now.ids.keys }
+    {
+        self.ids.contains(id)
     }
 
     /// How many updates there are.

@@ -28,7 +28,12 @@ fn name_of(alloc: Global, name: &str) -> Result<Frontier, Fail> {
 /// A document and a graph of one version, which typed `abc`.
 fn typed(alloc: Global) -> Result<(PlainDocument, Graph), Fail> {
     let mut graph = Graph::new(alloc);
-    graph.add(Id::read(alloc, b"x-1")?, name_of(alloc, "")?)?;
+    let id = Id::read(alloc, b"x-1")?;
+    let parents = name_of(alloc, "")?;
+    let None = graph.least_unheld(&parents) else {
+        return Err("a parent".into());
+    };
+    graph.add(id, parents)?;
     let mut doc = PlainDocument::new(alloc);
     doc.reserve(1, 3, 0)?;
     doc.begin(Id::read(alloc, b"x-1")?, 1);
@@ -78,9 +83,9 @@ fn resolved(
 ) -> Result<Result<Resolved, RebaseFault>, Fail> {
     let (doc, graph) = typed(alloc)?;
     let update = update_of(alloc, rows)?;
-    if graph.least_unheld(update.parents()).is_some() {
+    let None = graph.least_unheld(update.parents()) else {
         return Err("no parent".into());
-    }
+    };
     Ok(resolve(alloc, &doc, &graph, &update))
 }
 
