@@ -1,5 +1,7 @@
 //! Updates that are offered to a resource, and what it answers and reads.
 
+ghost use Rattle.std.specs.Prelude.{◌≡◌};
+
 use super::*;
 use braid_change::{Change, ListPatch, Patch, Text, Update};
 use braid_ids::{Frontier, Id};
@@ -98,7 +100,11 @@ fn is_answer(answer: &Accept, want: Want<'_>) -> bool {
 }
 
 /// Room for this many of each.
-fn room_for(n: u64) -> Room {
+fn room_for(n: u64) -> Room
+    ensures versions { result.versions ≡ n }
+    ensures elements { result.elements ≡ n }
+    ensures deletions { result.deletions ≡ n }
+{
     Room {
         versions: n,
         elements: n,
@@ -109,9 +115,17 @@ fn room_for(n: u64) -> Room {
 
 /// Offers an update to a small resource, and sees that the answer is the one that is wanted.
 fn give(alloc: Global, resource: &mut Resource, room: u64, row: &Offer<'_>) -> Result<(), Fail> {
-    let few = resource.entries() < 1000 && resource.elements() < 100_000;
-    if !few || resource.deletions() >= 100_000 || room >= 1000 {
-        return Err("not small".into());
+    if room >= 1000 {
+        return Err("much room".into());
+    }
+    if resource.entries() >= 1000 {
+        return Err("many updates".into());
+    }
+    if resource.elements() >= 100_000 {
+        return Err("many elements".into());
+    }
+    if resource.deletions() >= 100_000 {
+        return Err("many deletions".into());
     }
     let update = update_of(alloc, row)?;
     let before = resource.entries();
