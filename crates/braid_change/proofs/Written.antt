@@ -1,6 +1,6 @@
 -- What is written item by item is what the whole list is spelled as.
-use Rattle.std.proofs.Common.{◌≡◌, ◌==◌, ℕ, suc, ◌+◌, ◌<◌, ◌^◌, List, [], ◌∷◌, ◌++◌, Some, None, false, cond, ap, sym, ◌∙◌, arith, take, length, get_or, slice_get, append_assoc, flat_map, codes, encode_utf8, encode_utf8_all}
-use Rattle.std.proofs.lemmas.List.{take_more, append-nil, length-take-le}
+use Rattle.std.proofs.Common.{◌≡◌, ◌==◌, ℕ, suc, ◌+◌, ◌<◌, ◌^◌, List, [], ◌∷◌, ◌++◌, Some, None, false, cond, ap, sym, ◌∙◌, arith, take, drop, length, get_or, slice_get, append_assoc, flat_map, codes, encode_utf8, encode_utf8_all}
+use Rattle.std.proofs.lemmas.List.{take_more, take-append-drop, append-nil, length-take-le}
 use Rattle.std.proofs.lemmas.List.Folds.{length-flat_map-take}
 use Rattle.std.proofs.lemmas.Grind.{flat_map-append}
 use Rattle.std.proofs.lemmas.Option.{slice_get_within, get_or_from_slice_get, slice_get-get_or, none-some}
@@ -9,6 +9,7 @@ use Rattle.std.proofs.lemmas.Str.{encodes-append}
 use Rattle.braid_ids.specs.Identifiers.{spelled_id}
 use Rattle.braid_change.specs.Changes.{patches_content}
 use Rattle.braid_change.specs.Spellings.{parents_text, patch_text}
+use Rattle.braid_change.specs.Texts.{PutsFront}
 use Rattle.braid_change.specs.declared.patch.Patch.{Patch}
 
 -- one more item at the end of what was taken
@@ -64,3 +65,13 @@ none_within (x ∷ xs) n e l = none-some (get_or (x ∷ xs) n x) (e ∙ slice_ge
 -- pieces that are written one after the other
 pub three : (old one two new a b c : List ℕ) → one ≡ old ++ a → two ≡ one ++ b → new ≡ two ++ c → new ≡ old ++ (a ++ (b ++ c))
 three old one two new a b c p q r = r ∙ ap (λ z. z ++ c) (q ∙ ap (λ z. z ++ b) p) ∙ append_assoc (old ++ a) b c ∙ append_assoc old a (b ++ c)
+
+-- what was put before a push that failed is a front of the whole
+pub front_put : (before old new items : List ℕ) (i : ℕ) → old ≡ before ++ encode_utf8_all (take i items) → new ≡ old → PutsFront (encode_utf8_all items) before new
+front_put before old new items i o n =
+    record {
+      front = encode_utf8_all (take i items);
+      rest = encode_utf8_all (drop i items);
+      whole = ap encode_utf8_all (sym (take-append-drop i items)) ∙ encodes-append (take i items) (drop i items);
+      put = n ∙ o;
+    }

@@ -1,5 +1,5 @@
 -- What it means that bytes spell a text in UTF-8.
-use Rattle.std.specs.Prelude.{◌≡◌, ℕ, List, true, encode_utf8_all}
+use Rattle.std.specs.Prelude.{◌≡◌, ℕ, List, ◌++◌, true, encode_utf8_all}
 use Rattle.std.specs.Str.{all_scalars}
 use Rattle.braid_change.specs.declared.text.TextFault.{TextFault}
 use Rattle.braid_change.specs.declared.text.TextFault.TheVariants.{NotText, Memory}
@@ -13,3 +13,10 @@ pub record IsTextOf (text bytes : List ℕ) : Type 0 where
 abbrev pub IsTextFault : List ℕ → TextFault → Type 0
 IsTextFault bytes NotText = (text : List ℕ) → IsTextOf text bytes → ⊥
 IsTextFault bytes Memory = Unit {0}
+
+-- a front of the bytes was put behind the old ones
+pub record PutsFront (bytes old new : List ℕ) : Type 0 where
+  pub front : List ℕ
+  pub rest : List ℕ
+  pub whole : bytes ≡ front ++ rest
+  pub put : new ≡ old ++ front

@@ -126,7 +126,7 @@ fn push_content(out: &mut Bytes, text: &Text) -> Result<(), Memory>
     ensures ok { OnOk result (out.new ≡ out.old ++ content_text text.now) }
 {
     out.push(b"\r\n\r\n")?;
-    push_utf8(out, text)?;
+    text.push_to(out)?;
     out.push(b"\r\n")
 }
 
@@ -136,15 +136,4 @@ fn push_number(out: &mut Bytes, n: u64) -> Result<(), Memory>
 {
     let mut buffer = Buffer::new();
     out.push(buffer.format(n).as_bytes())
-}
-
-/// Puts the UTF-8 of a text at the end.
-fn push_utf8(out: &mut Bytes, text: &Text) -> Result<(), Memory>
-    ensures ok { OnOk result (out.new ≡ out.old ++ encode_utf8_all text.now) }
-{
-    for c in text.chars() {
-        let mut buffer = [0; 4];
-        out.push(c.encode_utf8(&mut buffer).as_bytes())?;
-    }
-    Ok(())
 }

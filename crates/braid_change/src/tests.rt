@@ -2,7 +2,7 @@ ghost use Rattle.std.specs.Prelude.{◌<◌, ◌^◌, length, IfOk};
 ghost use Rattle.braid_change.specs.Changes.{patches_of};
 
 use super::*;
-use braid_ids::{Frontier, Id};
+use braid_ids::{Bytes, Frontier, Id};
 use std::alloc::Global;
 use std::test::Fail;
 
@@ -315,6 +315,12 @@ fn texts_are_read_from_utf8(rt: HostRuntime) -> Result<(), Fail> {
     assert!(rt; text.chars() == ['a', 'é', '€', '😀'].as_slice());
     assert_eq!(rt; text.utf8_len(), 10);
     assert!(rt; text.same(&text.copy(alloc)?));
+    let mut out = Bytes::of(alloc, b"text: ")?;
+    text.push_to(&mut out)?;
+    assert_eq!(rt;
+        out.get(),
+        b"text: a\xc3\xa9\xe2\x82\xac\xf0\x9f\x98\x80".as_slice()
+    );
     for bytes in [b"\xc3".as_slice(), b"\xff", b"a\xe2\x82", b"\xed\xa0\x80"] {
         assert_eq!(rt; Text::read(alloc, bytes).err(), Some(TextFault::NotText));
     }

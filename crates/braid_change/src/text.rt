@@ -1,8 +1,8 @@
-ghost use Rattle.std.specs.Prelude.{◌≡◌, true, [], ◌∷◌, ◌-◌, ◌^◌, min, length, ◌↔◌, IfOk, IfErr, IsTrue, encode_utf8_all};
+ghost use Rattle.std.specs.Prelude.{◌≡◌, true, [], ◌∷◌, ◌-◌, ◌++◌, ◌^◌, min, length, ◌↔◌, IfOk, IfErr, OnOk, OnErr, IsTrue, encode_utf8_all};
 ghost use Rattle.std.specs.Str.{all_scalars};
-ghost use Rattle.braid_change.specs.Texts.{IsTextOf, IsTextFault};
+ghost use Rattle.braid_change.specs.Texts.{IsTextOf, IsTextFault, PutsFront};
 
-use braid_ids::Memory;
+use braid_ids::{Bytes, Memory};
 use std::alloc::Global;
 use std::marker::Model;
 
@@ -102,6 +102,20 @@ impl Text {
             len = len.saturating_add(c.len_utf8() as u64);
         }
         len
+    }
+
+    /// Puts its UTF-8 at the end of `out`.
+    ///
+    /// Errors: `Memory` where there was none to grow; a front of the UTF-8 was then put there.
+    pub fn push_to(&self, out: &mut Bytes) -> Result<(), Memory>
+        ensures ok { OnOk result (out.new ≡ out.old ++ encode_utf8_all self.now) }
+        ensures err { OnErr result (PutsFront (encode_utf8_all self.now) out.old out.new) }
+    {
+        for c in self.chars() {
+            let mut buffer = [0; 4];
+            out.push(c.encode_utf8(&mut buffer).as_bytes())?;
+        }
+        Ok(())
     }
 }
 
