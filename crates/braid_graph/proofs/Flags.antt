@@ -54,7 +54,7 @@ pub map_agree : {A B : Type 0} (f g : A → B) (xs : List A) → ((x : A) → Me
 map_agree f g [] h = refl
 map_agree f g (x ∷ xs) h = let a = h x (inl refl) in let b = map_agree f g xs (λ y m. h y (inr m)) in (λ i. a i ∷ b i)
 
-parent_found : (es : List GraphEntry) (v : List ℕ) → is_parent es v ≡ true → (e : GraphEntry) × Member e es × Member v e.parents
+pub parent_found : (es : List GraphEntry) (v : List ℕ) → is_parent es v ≡ true → (e : GraphEntry) × Member e es × Member v e.parents
 parent_found [] v h = cc
 parent_found (e ∷ es) v h = elim (or_cases (has_id v e.parents) (is_parent es v) h) [
   | inl a ↦ (e, inl refl, id_member v e.parents a)

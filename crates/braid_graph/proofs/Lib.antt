@@ -11,3 +11,4 @@ pub mod Marked
 pub mod Unheld
 pub mod Orders
 pub mod Widths
+pub mod Whole

@@ -1,5 +1,5 @@
 -- How many identifiers are no entry's parent once one more entry is there.
-use Rattle.std.proofs.Common.{◌≡◌, ℕ, ◌+◌, ◌≤◌, List, [], ◌∷◌, ◌++◌, Bool, true, false, not, ◌&&◌, cond, length, take, map, slice_get, Some, refl, sym, ap, ◌∙◌, arith, length-append}
+use Rattle.std.proofs.Common.{Contains, ◌≡◌, ℕ, ◌+◌, ◌≤◌, List, [], ◌∷◌, ◌++◌, Bool, true, false, not, ◌&&◌, cond, length, take, map, slice_get, Some, refl, sym, ap, ◌∙◌, arith, length-append}
 use Rattle.std.specs.List.{filter}
 use Rattle.std.specs.List.Sorted.{IsStrictlySortedBy}
 use Rattle.std.proofs.lemmas.List.{map_push, length-map}
@@ -69,6 +69,21 @@ module _ (es : List GraphEntry) (ps : List (List ℕ)) (history : IsHistoryGraph
 
   pub heads_fewer : length (filter (is_head es) ps) ≤ length (frontier_of es)
   heads_fewer = omega (arith, filter_parts named (heads_of es), heads_named, length_rising (heads_of es) distinct_heads)
+
+  -- where as many parents are heads as there are heads, each head is a parent
+  pub heads_named_all : length (filter (is_head es) ps) ≡ length (frontier_of es) → (v : List ℕ) → Member v (heads_of es) → Contains ps v
+  heads_named_all all v m = go (named v) refl
+    where
+      none : length (filter (λ (w : List ℕ). not (named w)) (heads_of es)) ≡ 0
+      none = omega (arith, all, filter_parts named (heads_of es), heads_named, length_rising (heads_of es) distinct_heads)
+
+      empty : (xs : List (List ℕ)) → length xs ≡ 0 → Member v xs → Contains ps v
+      empty [] l n = absurd n
+      empty (x ∷ xs) l n = absurd (omega arith)
+
+      go : (b : Bool) → named v ≡ b → Contains ps v
+      go true e = member_contains ps v (id_member v ps e)
+      go false e = empty (filter (λ (w : List ℕ). not (named w)) (heads_of es)) none (filter_member (λ (w : List ℕ). not (named w)) v (heads_of es) m (ap not e))
 
   heads_more : (id : List ℕ) → (Holds es id → ⊥) → heads_of (es ++ record { id = id; parents = ps } ∷ []) ≡ filter (λ (v : List ℕ). not (named v)) (heads_of es) ++ id ∷ []
   heads_more id new =

@@ -266,9 +266,35 @@ impl Graph {
 
     /// The arrival numbers of the ancestry of a frontier whose members are held.
     ///
+    /// Where all heads are among the members, that is each number.
+    fn marked(&self, alloc: Global, of: &Frontier) -> Result<Marks, Memory>
+        requires held { HoldsAll self.now of.now }
+        ensures ok { IfOk result (λ marks. MarksAncestry self.now of.now marks) }
+    {
+        if self.heads_among(of) == self.width() {
+            return self.all_numbers(alloc);
+        }
+        self.walked(alloc, of)
+    }
+
+    /// Each arrival number.
+    fn all_numbers(&self, alloc: Global) -> Result<Marks, Memory>
+        ensures size { IfOk result (λ marks. length marks ≡ length self.now) }
+        ensures ok { IfOk result (λ marks. (n : ℕ) → n < length self.now → IsMarked marks n) }
+    {
+        let size = self.entries.len() as u32;
+        let mut marks = Marks::of(alloc, size)?;
+        if size > 0 {
+            marks.add(0, size)?;
+        }
+        Ok(marks)
+    }
+
+    /// The same by a walk over the entries.
+    ///
     /// A parent's number is below its child's: so one pass from the greatest number to the least finds all,
     /// and the marks themselves are the list of what is left to do.
-    fn marked(&self, alloc: Global, of: &Frontier) -> Result<Marks, Memory>
+    fn walked(&self, alloc: Global, of: &Frontier) -> Result<Marks, Memory>
         requires held { HoldsAll self.now of.now }
         ensures ok { IfOk result (λ marks. MarksAncestry self.now of.now marks) }
     {
