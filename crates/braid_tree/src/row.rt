@@ -20,8 +20,8 @@ pub fn index_of(rows: &[PlainRow], at: At) -> usize
     requires there { HasPlace (rows_in rows.now) at }
     ensures found { IsPlaceOf (rows_in rows.now) at result }
 {
-    for (i, row) in rows.iter().enumerate() {
-        if row.at == at {
+    for i in (0..rows.len()).rev() {
+        if rows[i].at == at {
             return i;
         }
     }
