@@ -9,4 +9,5 @@ pub mod Counted
 pub mod Joins
 pub mod RunLists
 pub mod Resolves
+pub mod Reaches
 pub mod Stands

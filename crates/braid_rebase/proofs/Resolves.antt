@@ -4,34 +4,19 @@ use Rattle.std.proofs.lemmas.List.{length-map}
 use Rattle.braid_change.specs.declared.patch.Patch.{Patch}
 use Rattle.braid_change.specs.declared.change.Change.{Change}
 use Rattle.braid_change.specs.Changes.{IsShaped}
-use Rattle.braid_change.specs.Splices.{ranges, first_past, AreRanges}
-use Rattle.braid_change.specs.Updates.{UpdateView}
-use Rattle.braid_graph.specs.Entries.{GraphEntry}
+use Rattle.braid_change.specs.Splices.{ranges, AreRanges}
 use Rattle.braid_change.proofs.Pieces.{shaped_ranges}
 use Rattle.braid_tree.specs.declared.at.At.{At}
-use Rattle.braid_tree.specs.Rows.{Row, RowDeletion}
+use Rattle.braid_tree.specs.Rows.{Row}
 use Rattle.braid_tree.specs.Seen.{place_in, char_in}
 use Rattle.braid_rebase.specs.declared.resolving.Resolved.{Resolved}
 use Rattle.braid_rebase.specs.Pieces.{moved, first_needed, last_end}
-use Rattle.braid_rebase.specs.Resolved.{places_of, row_chars, row_ranges, runs_at, places_at, IsSeenAt, IsResolved, IsRangeFault, IsRebaseFault}
-use Rattle.braid_rebase.specs.declared.resolving.RebaseFault.{RebaseFault}
-use Rattle.braid_rebase.specs.declared.resolving.RebaseFault.TheVariants.{OutOfRange, Memory}
+use Rattle.braid_rebase.specs.Resolved.{places_of, row_chars, row_ranges, runs_at, places_at, IsResolved}
 use Rattle.braid_rebase.proofs.RunLists.{lent_ranges, deletes_are, runs_are}
 
 -- the ranges of a change in rows are ranges of their places
 pub row_within : (S : List Row) (change : Change) (rs : List Patch) → IsShaped change → ranges (row_chars S) change ≡ Some rs → AreRanges 0 (length (places_of S)) rs
 row_within S change rs shaped e = subst (λ (n : ℕ). AreRanges 0 n rs) (length-map S char_in ∙ sym (length-map S place_in)) (shaped_ranges (row_chars S) change rs shaped e)
-
--- the ranges that were found for the number of the rows are those in the rows
-pub ranges_found : (S : List Row) (len : ℕ) (change lent : Change) (list : List Patch) → len ≡ length S → lent ≡ change → ((t : List ℕ) → length t ≡ len → ranges t lent ≡ Some list) → ranges (row_chars S) change ≡ Some list
-ranges_found S len change lent list n c h = ap (ranges (row_chars S)) (sym c) ∙ h (row_chars S) (length-map S char_in ∙ sym n)
-
--- and so is the fault
-pub fault_found : (es : List GraphEntry) (deletions : List RowDeletion) (rows S : List Row) (u : UpdateView) (len : ℕ) (lent : Change) (fault : RebaseFault) → IsSeenAt es u.parents deletions rows S → len ≡ length S → lent ≡ u.change
-    → ((t : List ℕ) → length t ≡ len → IsRangeFault t lent fault) → IsRebaseFault es deletions rows u fault
-fault_found es deletions rows S u len lent (OutOfRange patch n) seen l c h =
-    let f = h (row_chars S) (length-map S char_in ∙ sym l) in (S, seen, ap (first_past (row_chars S)) (sym c) ∙ f.0, f.1 ∙ length-map S char_in)
-fault_found es deletions rows S u len lent Memory seen l c h = tt
 
 -- the piece of places that reaches over the ranges, lent under other names
 pub piece_lent : (S : List Row) (change : Change) (list lent : List Patch) (part items : List At) (first to : ℕ) → IsShaped change → ranges (row_chars S) change ≡ Some list → lent ≡ list → first ≡ first_needed lent → to ≡ last_end lent

@@ -9,7 +9,9 @@ use Rattle.braid_graph.specs.Ancestries.{MarksAncestry}
 use Rattle.braid_tree.specs.declared.at.At.{At}
 use Rattle.braid_tree.specs.Rows.{Row, RowDeletion}
 use Rattle.braid_tree.specs.Seen.{seen_rows, place_in, char_in}
+use Rattle.braid_rebase.specs.Pieces.{first_needed, last_end}
 use Rattle.braid_rebase.specs.declared.run.Run.{Run}
+use Rattle.braid_rebase.specs.declared.reaching.Reach.{Reach}
 use Rattle.braid_rebase.specs.declared.resolving.Resolved.{Resolved}
 use Rattle.braid_rebase.specs.declared.resolving.RebaseFault.{RebaseFault}
 use Rattle.braid_rebase.specs.declared.resolving.RebaseFault.TheVariants.{OutOfRange, Memory}
@@ -50,6 +52,12 @@ pub record IsResolved (S : List Row) (change : Change) (resolved : Resolved) : T
   pub fits : IsSome (ranges (row_chars S) change)
   pub runs : resolved.runs.items ≡ runs_at (places_of S) 0 (row_ranges S change)
   pub deletes : resolved.deletes.items ≡ places_at (places_of S) (row_ranges S change)
+
+-- the places of the seen rows that ranges reach over, as far as there are such: from the one before the first range up to the end of the last
+pub record IsReached (S : List Row) (reach : Reach) : Type 0 where
+  pub first : reach.first ≡ first_needed reach.ranges.items
+  pub end : reach.end ≡ last_end reach.ranges.items
+  pub places : reach.places.items ≡ take (reach.end - reach.first) (drop reach.first (places_of S))
 
 -- why an update was not resolved: the first joined patch past the seen rows, and how many these are. Memory may come for any update
 abbrev pub IsRebaseFault : List GraphEntry → List RowDeletion → List Row → UpdateView → RebaseFault → Type 0

@@ -12,6 +12,7 @@
 
 pub mod laws;
 mod ranges;
+mod reaching;
 mod resolving;
 mod run;
 

@@ -5,7 +5,7 @@ ghost use Rattle.braid_tree.specs.Rows.{Row};
 ghost use Rattle.braid_rebase.specs.declared.resolving.RebaseFault.TheVariants.{Memory as NoMemory};
 ghost use Rattle.braid_rebase.specs.Resolved.{IsSeenAt, IsResolved, IsRebaseFault};
 
-use crate::ranges::{ranges_of, reach};
+use crate::reaching::{Reach, reach_of};
 use crate::run::{Run, deletes_in, runs_in};
 use braid_change::Update;
 use braid_graph::Graph;
@@ -63,8 +63,8 @@ impl<T: Drop> From<AllocFailed<T>> for RebaseFault {
 /// The graph holds the update's parents, and the document has the graph's versions in the same order. Both stay as
 /// they are.
 ///
-/// It passes over the document's elements twice, whatever the number of ranges, and copies the places of the elements
-/// from the first range to the end of the last.
+/// It passes over the document's elements once up to the end of the last patch, whatever their number, and for a body
+/// twice over all of them; it copies the places of the elements from the first range to the end of the last.
 ///
 /// Errors: `OutOfRange` where a joined patch ends past the text at the parents, or `Memory`.
 pub fn resolve<D: Document>(
@@ -82,12 +82,16 @@ pub fn resolve<D: Document>(
     let Ok(marks) = graph.ancestry(alloc, update.parents()) else {
         return Err(RebaseFault::Memory);
     };
-    let ranges = match ranges_of(alloc, update.change(), doc.len(&marks)) {
-        Ok(ranges) => ranges,
+    let reach = match reach_of(alloc, doc, &marks, update.change()) {
+        Ok(reach) => reach,
         Err(fault) => return Err(fault),
     };
-    let (first, end) = reach(&ranges);
-    let places = doc.visible_between(alloc, &marks, first, end)?;
+    let Reach {
+        ranges,
+        first,
+        places,
+        ..
+    } = reach;
     let deletes = deletes_in(alloc, &places, first, &ranges)?;
     let runs = runs_in(alloc, &places, first, ranges)?;
     let level = level_above(graph, update.parents());
