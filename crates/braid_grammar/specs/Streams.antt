@@ -151,6 +151,10 @@ pub record IsFault (bytes : List ℕ) (at : ℕ) (reason : Reason) : Type 0 wher
   pub fault : next_at (length front) rest ≡ Bad at reason
   pub spelled : bytes ≡ front ++ rest
 
+-- the bytes have no fault
+abbrev pub IsFaultless : List ℕ → Type 0
+IsFaultless bytes = (at : ℕ) (reason : Reason) → IsFault bytes at reason → ⊥
+
 -- the bytes are these updates, each after a gap, and hold no further update whole
 pub record Completes (us : List UpdateView) (bytes : List ℕ) : Type 0 where
   pub front : List ℕ
@@ -159,7 +163,27 @@ pub record Completes (us : List UpdateView) (bytes : List ℕ) : Type 0 where
   pub no_more : (u : UpdateView) (gap first more : List ℕ) → IsGap gap → SpellsUpdate u first → rest ≡ gap ++ (first ++ more) → ⊥
   pub spelled : bytes ≡ front ++ rest
 
+-- the bytes complete these updates and no more, and have no fault
+pub record HaveUpdates (us : List UpdateView) (bytes : List ℕ) : Type 0 where
+  pub completes : Completes us bytes
+  pub faultless : IsFaultless bytes
+
+-- the bytes end with the last byte of this update, which stands behind these ones
+pub record EndsWith (us : List UpdateView) (u : UpdateView) (bytes : List ℕ) : Type 0 where
+  pub front : List ℕ
+  pub last : List ℕ
+  pub stream : IsStream us front
+  pub is_last : SpellsUpdate u last
+  pub spelled : bytes ≡ front ++ last
+
+-- the bytes begin with these updates and then this one, each whole
+pub record BeginsWith (us : List UpdateView) (u : UpdateView) (bytes : List ℕ) : Type 0 where
+  pub front : List ℕ
+  pub rest : List ℕ
+  pub ends : EndsWith us u front
+  pub spelled : bytes ≡ front ++ rest
+
 -- no stream, and no fault: the bytes end within a line, a head or a content, or before a patch
 pub record IsTorn (bytes : List ℕ) : Type 0 where
   pub no_stream : (us : List UpdateView) → IsStream us bytes → ⊥
-  pub no_fault : (at : ℕ) (reason : Reason) → IsFault bytes at reason → ⊥
+  pub no_fault : IsFaultless bytes
