@@ -13,7 +13,7 @@ use Rattle.braid_frame.specs.Goings.{StandsAs, HasFault, IsFraming}
 use Rattle.braid_frame.specs.Framing.{StandsFor, IsOpen, updates_of, IfEnds, Takes, Fails, Feeds}
 use Rattle.braid_frame.specs.Steps.{StepsOn, Steps}
 use Rattle.braid_frame.proofs.Stood.{fault_more}
-use Rattle.braid_frame.proofs.Meant.{as_stands, faultless}
+use Rattle.braid_frame.proofs.Meant.{as_stands, faultless, failed_fault}
 
 pub take_sum : (n m : ℕ) (xs : List ℕ) → take (n + m) xs ≡ take n xs ++ take m (drop n xs)
 take_sum zero m xs = let e : 0 + m ≡ m = omega arith in rw e refl
@@ -91,6 +91,5 @@ fails_step us b piece rest taken Memory new e k h = h
 -- a framer that has failed fails again
 pub fails_again : (us : List UpdateView) (b piece : List ℕ) (s : State) (f : FrameFault) → s.doing ≡ Faulted f → StandsFor us s b → Fails us b piece f s
 fails_again us b piece s f e h =
-    let old : HasFault us b f = subst (λ d. StandsAs d us s.at s.kept.items b) e h.stands in
-    let new = fault_more us b piece f old in
+    let new = fault_more us b piece f (failed_fault us s b f h e) in
     record { fault = new.0; failed = e; stands = record { framing = h.framing; stands = rw e new } }

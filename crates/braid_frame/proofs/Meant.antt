@@ -5,21 +5,21 @@ use Rattle.std.proofs.lemmas.List.{append-nil}
 use Rattle.braid_change.specs.Updates.{UpdateView}
 use Rattle.braid_fields.specs.declared.reason.Reason.{Reason}
 use Rattle.braid_grammar.specs.Lines.{lines_of}
-use Rattle.braid_grammar.specs.Outcomes.{Outcome, Part, Bad, Whole}
+use Rattle.braid_grammar.specs.Outcomes.{Part, Bad, Whole}
 use Rattle.braid_grammar.specs.Readings.{next_at}
-use Rattle.braid_grammar.specs.Streams.{IsGap, no_line, one_more, IsStream, IsFault, Completes}
+use Rattle.braid_grammar.specs.Streams.{IsGap, no_line, one_more, IsStream, IsFault, IsFaultless, Completes}
 use Rattle.braid_grammar.proofs.Cut.{lines_line}
 use Rattle.braid_grammar.proofs.Spelled.{spelled_next, line_of_empty}
-use Rattle.braid_grammar.proofs.Back.{next_back}
-use Rattle.braid_grammar.proofs.Law.{IsEnd, runs_same, front_runs, fault_runs, one_fault, no_stream, end_gap}
+use Rattle.braid_grammar.proofs.Law.{runs_same, front_runs, fault_runs, one_fault, no_stream, end_gap}
+use Rattle.braid_frame.specs.declared.fed.FrameFault.{FrameFault}
 use Rattle.braid_frame.specs.declared.state.Awaits.{Awaits}
 use Rattle.braid_frame.specs.declared.state.Awaits.TheVariants.{UpdateHead, PatchHead, FirstField, MoreFields}
 use Rattle.braid_frame.specs.declared.state.Doing.{Doing}
 use Rattle.braid_frame.specs.declared.state.Doing.TheVariants.{Lines, Body, PatchLines, PatchContent, Faulted, NoMemory}
 use Rattle.braid_frame.specs.declared.state.State.{State}
 use Rattle.braid_frame.specs.HeadLines.{BeginsSo}
-use Rattle.braid_frame.specs.Goings.{resume, Stands, StandsAs, IsInHand, GoesOnReading}
-use Rattle.braid_frame.specs.Framing.{IsFaultless, StandsFor, IsOpen}
+use Rattle.braid_frame.specs.Goings.{resume, Stands, StandsAs, HasFault, IsInHand, GoesOnReading}
+use Rattle.braid_frame.specs.Framing.{StandsFor, IsOpen, HasFailed}
 use Rattle.braid_frame.proofs.LinesKept.{begins_no_gap}
 use Rattle.braid_frame.proofs.Resumed.{still_part}
 
@@ -96,6 +96,10 @@ fault_answered us framer b at r h z = go framer.doing refl h.stands
         let same = one_fault b f.at at f.reason r s.0 z in
         e ∙ ap (λ n. Faulted (record { at = n; reason = f.reason })) same.0 ∙ ap (λ n. Faulted (record { at = at; reason = n })) same.1
     go NoMemory e s = absurd s
+
+-- a fault that was answered is one of the bytes, behind the updates
+pub failed_fault : (us : List UpdateView) (framer : State) (b : List ℕ) (f : FrameFault) → StandsFor us framer b → HasFailed framer f → HasFault us b f
+failed_fault us framer b f h e = subst (λ d. StandsAs d us framer.at framer.kept.items b) e h.stands
 
 -- where nothing is kept between updates the bytes are a stream
 pub rests : (us : List UpdateView) (framer : State) (b : List ℕ) → framer.doing ≡ Lines → framer.kept.items ≡ [] → StandsFor us framer b → IsStream us b

@@ -8,7 +8,7 @@ use Rattle.braid_fields.specs.declared.reason.Reason.{Reason}
 use Rattle.braid_fields.specs.Lines.{is_empty_line}
 use Rattle.braid_grammar.specs.Outcomes.{Outcome, Part, Bad, Whole}
 use Rattle.braid_grammar.specs.Readings.{patch_of, next_at}
-use Rattle.braid_grammar.specs.Streams.{IsGap, no_line, one_more, SpellsUpdate, IsStream}
+use Rattle.braid_grammar.specs.Streams.{IsGap, no_line, one_more, SpellsUpdate, IsStream, EndsWith}
 use Rattle.braid_grammar.proofs.Stable.{Extends}
 use Rattle.braid_grammar.proofs.Readers.{next_stable}
 use Rattle.braid_grammar.proofs.Back.{Next, next_back}
@@ -20,7 +20,6 @@ use Rattle.braid_frame.specs.declared.state.Doing.{Doing}
 use Rattle.braid_frame.specs.declared.state.Doing.TheVariants.{Lines, Body, PatchLines, PatchContent, Faulted, NoMemory}
 use Rattle.braid_frame.specs.HeadLines.{BeginsWithLine}
 use Rattle.braid_frame.specs.Goings.{resume, body_update, behind_patch, IsLeft, Stands, HasFault}
-use Rattle.braid_frame.specs.Framing.{EndsWith}
 use Rattle.braid_frame.specs.Steps.{IsInLines, IsInContent, Goes, Completed}
 use Rattle.braid_frame.proofs.LinesKept.{begins_more}
 use Rattle.braid_frame.proofs.Resumed.{lines_past, body_read, patch_read}

@@ -1,8 +1,7 @@
 -- What a framer that was fed bytes stands for, and what a feed answers.
 use Rattle.std.specs.Prelude.{◌≡◌, ℕ, ◌<◌, ◌≤◌, List, [], ◌∷◌, ◌++◌, Option, Some, None, Result, Ok, Err, length, take}
 use Rattle.braid_change.specs.Updates.{UpdateView}
-use Rattle.braid_fields.specs.declared.reason.Reason.{Reason}
-use Rattle.braid_grammar.specs.Streams.{SpellsUpdate, IsStream, IsFault}
+use Rattle.braid_grammar.specs.Streams.{IsFault, IsFaultless, EndsWith}
 use Rattle.braid_frame.specs.declared.fed.Fed.{Fed}
 use Rattle.braid_frame.specs.declared.fed.FrameFault.{FrameFault}
 use Rattle.braid_frame.specs.declared.fed.FeedFault.{FeedFault}
@@ -10,10 +9,6 @@ use Rattle.braid_frame.specs.declared.fed.FeedFault.TheVariants.{Frame, Memory}
 use Rattle.braid_frame.specs.declared.state.Doing.TheVariants.{Faulted, NoMemory}
 use Rattle.braid_frame.specs.declared.state.State.{State}
 use Rattle.braid_frame.specs.Goings.{StandsAs, IsFraming, GoesOnReading}
-
--- the bytes have no fault
-abbrev pub IsFaultless : List ℕ → Type 0
-IsFaultless bytes = (at : ℕ) (reason : Reason) → IsFault bytes at reason → ⊥
 
 -- a framer has answered no fault and no want of memory
 abbrev pub IsOpen : State → Type 0
@@ -36,14 +31,6 @@ pub record StandsFor (us : List UpdateView) (framer : State) (bytes : List ℕ) 
 abbrev pub updates_of : Option UpdateView → List UpdateView
 updates_of None = []
 updates_of (Some u) = u ∷ []
-
--- the bytes end with the last byte of this update, which stands behind these ones
-pub record EndsWith (us : List UpdateView) (u : UpdateView) (bytes : List ℕ) : Type 0 where
-  pub front : List ℕ
-  pub last : List ℕ
-  pub stream : IsStream us front
-  pub is_last : SpellsUpdate u last
-  pub spelled : bytes ≡ front ++ last
 
 -- an update that was answered ends with the bytes
 abbrev pub IfEnds : List UpdateView → Option UpdateView → List ℕ → Type 0
