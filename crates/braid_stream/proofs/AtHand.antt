@@ -3,11 +3,11 @@ use Rattle.std.proofs.Common.{◌≡◌, ℕ, suc, ◌+◌, List, [], ◌∷◌,
 use Rattle.braid_change.specs.Updates.{UpdateView}
 use Rattle.braid_grammar.specs.Outcomes.{Outcome}
 use Rattle.braid_grammar.specs.Readings.{next_at}
-use Rattle.braid_grammar.specs.Streams.{no_line}
+use Rattle.braid_grammar.specs.Streams.{no_line, HaveUpdates, BeginsWith}
 use Rattle.braid_grammar.proofs.Spelled.{spelled_next}
 use Rattle.braid_grammar.proofs.Completed.{runs_out}
 use Rattle.braid_grammar.proofs.Law.{Runs, IsEnd, runs_same, stream_runs, scan}
-use Rattle.braid_stream.specs.Readers.{HaveUpdates, HaveAnswer, update, fault, BeginsWith}
+use Rattle.braid_stream.specs.Readers.{HaveAnswer, update, fault}
 
 -- the bytes are these updates, then this one, further ones, and then none that is whole
 pub record Continues (us : List UpdateView) (u : UpdateView) (bytes : List ℕ) : Type 0 where

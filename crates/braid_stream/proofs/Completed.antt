@@ -1,9 +1,8 @@
 -- What the updates that bytes complete say of streams.
 use Rattle.std.proofs.Common.{◌≡◌, ℕ, List, sym, subst}
 use Rattle.braid_change.specs.Updates.{UpdateView}
-use Rattle.braid_grammar.specs.Streams.{Completes, IsStream, IsTorn}
+use Rattle.braid_grammar.specs.Streams.{Completes, IsStream, HaveUpdates, IsTorn}
 use Rattle.braid_grammar.proofs.Completed.{one_list, stream_completes}
-use Rattle.braid_stream.specs.Readers.{HaveUpdates}
 
 -- the updates of a stream are those that it completes
 pub stream_completed : (us vs : List UpdateView) (bytes : List ℕ) → Completes us bytes → IsStream vs bytes → us ≡ vs

@@ -1,5 +1,5 @@
 -- A reader with a source of its own.
-use Rattle.braid_stream.specs.declared.update_reader.UpdateReader.{UpdateReader}
+use Rattle.braid_stream.specs.declared.reading.Reading.{Reading}
 use Rattle.braid_stream.specs.declared.stream_reader.StreamReader.{StreamReader}
 
 -- the source that a reader owns
@@ -7,5 +7,5 @@ abbrev pub source_of : {S : Type 0} → StreamReader S → S
 source_of owner = owner.source
 
 -- the reader over that source
-abbrev pub reader_of : {S : Type 0} → StreamReader S → UpdateReader
+abbrev pub reader_of : {S : Type 0} → StreamReader S → Reading
 reader_of owner = owner.reader

@@ -2,14 +2,14 @@
 use Rattle.std.specs.Prelude.{◌≡◌, ℕ, ◌<◌, ◌≤◌, List, [], ◌∷◌, ◌++◌, Some, None, length}
 use Rattle.braid_io.specs.Outside.{Intake, Moves}
 use Rattle.braid_change.specs.Updates.{UpdateView}
-use Rattle.braid_grammar.specs.Streams.{Completes, IsStream, IsTorn}
+use Rattle.braid_grammar.specs.Streams.{IsStream, HaveUpdates, BeginsWith, IsTorn}
 use Rattle.braid_frame.specs.declared.fed.FrameFault.{FrameFault}
 use Rattle.braid_frame.specs.Goings.{HasFault}
-use Rattle.braid_frame.specs.Framing.{StandsFor, IsOpen, IsFaultless, EndsWith}
+use Rattle.braid_frame.specs.Framing.{StandsFor, IsOpen}
 use Rattle.braid_stream.specs.declared.next.Next.{Next}
 use Rattle.braid_stream.specs.declared.next.Next.TheVariants.{Update, End, Torn, Fault, ReadFault, Spent, Memory}
 use Rattle.braid_stream.specs.declared.next.Ended.TheVariants as ends
-use Rattle.braid_stream.specs.declared.update_reader.UpdateReader.{UpdateReader}
+use Rattle.braid_stream.specs.declared.reading.Reading.{Reading}
 use Rattle.braid_stream.specs.Pieces.{FailsBehind, EndsBehind}
 
 -- the most bytes that are read of one stream
@@ -17,11 +17,11 @@ abbrev pub most_bytes : ℕ
 most_bytes = 1_099_511_627_776
 
 -- a reader has given no answer that it keeps for good
-abbrev pub GoesOn : UpdateReader → Type 0
+abbrev pub GoesOn : Reading → Type 0
 GoesOn reader = reader.ended ≡ None
 
 -- a reader has given this answer, and keeps it for good
-abbrev pub HasEnded : UpdateReader → Next → Type 0
+abbrev pub HasEnded : Reading → Next → Type 0
 HasEnded reader (Update u) = ⊥
 HasEnded reader End = reader.ended ≡ Some ends.End
 HasEnded reader (Torn at) = reader.ended ≡ Some (ends.Torn at)
@@ -32,7 +32,7 @@ HasEnded reader Memory = reader.ended ≡ Some ends.Memory
 
 -- A reader that goes on has taken these bytes from its source, and has answered these updates: they are what its framer
 -- stands for, followed by what it holds.
-pub record HasTaken (us : List UpdateView) (reader : UpdateReader) (bytes : List ℕ) : Type 0 where
+pub record HasTaken (us : List UpdateView) (reader : Reading) (bytes : List ℕ) : Type 0 where
   pub fed : List ℕ
   pub stands : StandsFor us reader.framer fed
   pub open_still : IsOpen reader.framer
@@ -40,21 +40,9 @@ pub record HasTaken (us : List UpdateView) (reader : UpdateReader) (bytes : List
   pub count : reader.read ≡ length bytes
   pub within : length bytes ≤ most_bytes
 
--- a reader may be called: it has ended, or has taken some bytes, as every reader has that was made by `new`
-abbrev pub IsReadable : UpdateReader → Type 0
+-- what is true of every reader: it has ended, or has taken some bytes
+abbrev pub IsReadable : Reading → Type 0
 IsReadable reader = GoesOn reader → (us : List UpdateView) × (bytes : List ℕ) × HasTaken us reader bytes
-
--- the bytes complete these updates and no more, and have no fault
-pub record HaveUpdates (us : List UpdateView) (bytes : List ℕ) : Type 0 where
-  pub completes : Completes us bytes
-  pub faultless : IsFaultless bytes
-
--- the bytes begin with these updates and then this one, each whole
-pub record BeginsWith (us : List UpdateView) (u : UpdateView) (bytes : List ℕ) : Type 0 where
-  pub front : List ℕ
-  pub rest : List ℕ
-  pub ends : EndsWith us u front
-  pub spelled : bytes ≡ front ++ rest
 
 -- the next answer is at hand: the bytes begin with these updates and then one more, or have a fault behind these
 pub data HaveAnswer (us : List UpdateView) (bytes : List ℕ) : Type 0 where
@@ -77,7 +65,7 @@ IsCause us more bytes before after Spent =
 IsCause us more bytes before after Memory = Moves more before after × (length bytes ≤ most_bytes)
 
 -- what an answer leaves: after an update, or a failed read, the reader goes on; after any other it has ended with it
-abbrev pub Leaves : List UpdateView → List ℕ → Next → UpdateReader → Type 0
+abbrev pub Leaves : List UpdateView → List ℕ → Next → Reading → Type 0
 Leaves us bytes (Update u) new = GoesOn new × HasTaken (us ++ u ∷ []) new bytes
 Leaves us bytes End new = HasEnded new End
 Leaves us bytes (Torn at) new = HasEnded new (Torn at)
@@ -88,7 +76,7 @@ Leaves us bytes Memory new = HasEnded new Memory
 
 -- one call of a reader that goes on, which had taken these bytes: the source gave some bytes more, or none; and none
 -- where the answer was at hand
-pub record Answers (us : List UpdateView) (bytes : List ℕ) (next : Next) (new : UpdateReader) (before after : Intake) : Type 0 where
+pub record Answers (us : List UpdateView) (bytes : List ℕ) (next : Next) (new : Reading) (before after : Intake) : Type 0 where
   pub more : List ℕ
   pub at_hand : HaveAnswer us bytes → more ≡ []
   pub cause : IsCause us more (bytes ++ more) before after next

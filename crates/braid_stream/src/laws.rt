@@ -2,14 +2,15 @@
 
 ghost use Rattle.std.specs.Prelude.{◌≡◌, ◌++◌, ℕ, List};
 ghost use Rattle.braid_change.specs.Updates.{UpdateView};
-ghost use Rattle.braid_stream.specs.declared.update_reader.UpdateReader.{UpdateReader as Reader};
-ghost use Rattle.braid_stream.specs.Readers.{HasTaken, HaveUpdates};
+ghost use Rattle.braid_grammar.specs.Streams.{HaveUpdates};
+ghost use Rattle.braid_stream.specs.declared.reading.Reading.{Reading};
+ghost use Rattle.braid_stream.specs.Readers.{HasTaken};
 
 /// What a reader that goes on has taken: bytes that complete exactly the updates that it answered and have no fault,
 /// followed by those that it holds. The updates are determined by the reader and the bytes.
 pub fn meaning()
-    ensures updates { (us : List UpdateView) (reader : Reader) (bytes : List ℕ) → HasTaken us reader bytes
+    ensures updates { (us : List UpdateView) (reader : Reading) (bytes : List ℕ) → HasTaken us reader bytes
         → (fed : List ℕ) × (held : List ℕ) × (bytes ≡ fed ++ held) × HaveUpdates us fed }
-    ensures one { (us vs : List UpdateView) (reader : Reader) (bytes : List ℕ)
+    ensures one { (us vs : List UpdateView) (reader : Reading) (bytes : List ℕ)
         → HasTaken us reader bytes → HasTaken vs reader bytes → us ≡ vs }
 {}

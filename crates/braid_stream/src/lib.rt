@@ -14,6 +14,7 @@
 mod held;
 pub mod laws;
 mod next;
+mod reading;
 mod stream_reader;
 mod update_reader;
 

@@ -33,13 +33,12 @@ impl<S: Source> StreamReader<S> {
     /// The next update of the stream, or why there is none, by all bytes that the reader has taken.
     ///
     /// Where the bytes taken before this call hold one more update, or the fault of the stream, it leaves its source
-    /// alone. Else it reads from it, and never past the limit of 1,099,511,627,776 bytes taken in all.
+    /// alone. Else it may read from it, and never past the limit of 1,099,511,627,776 bytes taken in all.
     ///
     /// After `Update` and `ReadFault` a further call goes on. After any other answer it gives that answer for good, and
     /// leaves itself and its source alone.
     pub fn next(&mut self) -> Next
-        requires readable { IsReadable (reader_of self.old) }
-        ensures readable { IsReadable (reader_of self.new) }
+        ensures readable { IsReadable (reader_of self.old) }
         ensures answers { (us : List UpdateView) (bytes : List ℕ) → GoesOn (reader_of self.old) → HasTaken us (reader_of self.old) bytes
             → Answers us bytes result (reader_of self.new) (S.intake (source_of self.old)) (S.intake (source_of self.new)) }
         ensures at_hand { (us : List UpdateView) (bytes : List ℕ) → GoesOn (reader_of self.old) → HasTaken us (reader_of self.old) bytes

@@ -1,30 +1,35 @@
-ghost use Rattle.std.specs.Prelude.{◌≡◌, ℕ, List, [], Some, None};
+ghost use Rattle.std.specs.Prelude.{◌≡◌, ℕ, List, []};
 ghost use Rattle.braid_change.specs.Updates.{UpdateView};
 
-use crate::held::Held;
-use crate::next::{Ended, Next};
-use braid_frame::{FeedFault, Framer};
-use braid_io::{Read, Source};
+use crate::next::Next;
+use crate::reading::Reading;
+use braid_io::Source;
 use std::alloc::Global;
-
-/// The most bytes that are read of one stream.
-const MOST_BYTES: u64 = 1_099_511_627_776;
+use std::marker::Model;
 
 /// Reads the updates of one stream from a source that it is handed at each call.
 ///
-/// It holds at most 8,192 bytes that were read and not yet fed, and what its framer keeps.
+/// It holds at most 8,192 bytes that were read and not yet fed, and what its framer keeps. Contracts see it as what it
+/// keeps between its answers.
 #[derive(Drop)]
 pub struct UpdateReader {
-    framer: Framer,
-    held: Held,
-    read: u64,
-    ended: Option<Ended>,
+    reading: Reading,
+}
+
+impl Model for UpdateReader {
+    ghost use Rattle.braid_stream.specs.declared.reading.Reading.{Reading};
+    ghost use Rattle.braid_stream.specs.Readers.{IsReadable};
+
+    ghost Value = { Reading };
+
+    ghost view = { λ reader. reader.reading };
+
+    ghost invariant = { λ reader. IsReadable reader.reading };
 }
 
 impl UpdateReader {
     ghost use Rattle.braid_stream.specs.declared.next.Next.{Next as Answer};
     ghost use Rattle.braid_stream.specs.Readers.{HasTaken, GoesOn, HasEnded, IsReadable, HaveAnswer, Answers};
-    ghost use Rattle.braid_stream.specs.Steps.{FeedsHeld, Refills, Rises, EndsSource, answer_of};
 
     /// A reader that has read nothing. It takes no memory.
     pub fn new(alloc: Global) -> UpdateReader
@@ -32,122 +37,26 @@ impl UpdateReader {
         ensures going { GoesOn result }
     {
         UpdateReader {
-            framer: Framer::new(alloc),
-            held: Held::new(),
-            read: 0,
-            ended: None,
+            reading: Reading::new(alloc),
         }
     }
 
     /// The next update of the stream, or why there is none, by all bytes that the reader has taken.
     ///
     /// Where the bytes taken before this call hold one more update, or the fault of the stream, it leaves `source` alone.
-    /// Else it reads from it, and never past the limit of 1,099,511,627,776 bytes taken in all. `source` is the same at
-    /// each call, or one that goes on with its bytes.
+    /// Else it may read from it, and never past the limit of 1,099,511,627,776 bytes taken in all. `source` is the same
+    /// at each call, or one that goes on with its bytes.
     ///
     /// After `Update` and `ReadFault` a further call goes on. After any other answer it gives that answer for good, and
     /// leaves itself and `source` alone.
     pub fn next<S: Source>(&mut self, source: &mut S) -> Next
-        requires readable { IsReadable self.old }
-        ensures readable { IsReadable self.new }
+        ensures readable { IsReadable self.old }
         ensures answers { (us : List UpdateView) (bytes : List ℕ) → GoesOn self.old → HasTaken us self.old bytes
             → Answers us bytes result self.new (S.intake source.old) (S.intake source.new) }
         ensures at_hand { (us : List UpdateView) (bytes : List ℕ) → GoesOn self.old → HasTaken us self.old bytes → HaveAnswer us bytes → source.new ≡ source.old }
         ensures again { (next : Answer) → HasEnded self.old next → (result ≡ next) × (self.new ≡ self.old) × (source.new ≡ source.old) }
         ensures kept { S.beside_reads source.new ≡ S.beside_reads source.old }
     {
-        match self.ended {
-            Some(ended) => ended.answer(),
-            None => self.go_on(source),
-        }
-    }
-
-    /// Feeds what is held and reads on, until there is an answer.
-    fn go_on<S: Source>(&mut self, source: &mut S) -> Next
-        requires going { GoesOn self.old }
-        requires stands { (us : List UpdateView) × (bytes : List ℕ) × HasTaken us self.old bytes }
-        ensures answers { (us : List UpdateView) (bytes : List ℕ) → HasTaken us self.old bytes
-            → Answers us bytes result self.new (S.intake source.old) (S.intake source.new) }
-        ensures at_hand { (us : List UpdateView) (bytes : List ℕ) → HasTaken us self.old bytes → HaveAnswer us bytes → source.new ≡ source.old }
-        ensures kept { S.beside_reads source.new ≡ S.beside_reads source.old }
-    {
-        'reading: loop {
-            if let Some(next) = self.feed_held() {
-                return next;
-            }
-            if let Some(next) = self.refill(source) {
-                return next;
-            }
-        }
-    }
-
-    /// Feeds the bytes that are held, up to an update; `None` where all of them were fed and completed none.
-    fn feed_held(&mut self) -> Option<Next>
-        requires going { GoesOn self.old }
-        requires stands { (us : List UpdateView) × (bytes : List ℕ) × HasTaken us self.old bytes }
-        ensures feeds { (us : List UpdateView) (bytes : List ℕ) → HasTaken us self.old bytes → FeedsHeld us bytes result self.new }
-        ensures read { self.new.read ≡ self.old.read }
-    {
-        match self.framer.feed(self.held.get()) {
-            Ok(fed) => {
-                self.held.pass(fed.taken);
-                match fed.update {
-                    Some(update) => Some(Next::Update(update)),
-                    None => None,
-                }
-            }
-            Err(fault) => match fault {
-                FeedFault::Frame(fault) => Some(self.end(Ended::Fault(fault))),
-                FeedFault::Memory => Some(self.end(Ended::Memory)),
-            },
-        }
-    }
-
-    /// Reads the next bytes, where none are held; `None` where some came.
-    fn refill<S: Source>(&mut self, source: &mut S) -> Option<Next>
-        requires going { GoesOn self.old }
-        requires fed { self.old.held ≡ [] }
-        requires stands { (us : List UpdateView) × (bytes : List ℕ) × HasTaken us self.old bytes }
-        ensures fills { (us : List UpdateView) (bytes : List ℕ) → HasTaken us self.old bytes
-            → Refills us bytes result self.new (S.intake source.old) (S.intake source.new) }
-        ensures rises { result ≡ None → Rises self.old self.new }
-        ensures kept { S.beside_reads source.new ≡ S.beside_reads source.old }
-    {
-        let most = MOST_BYTES - self.read;
-        if most == 0 {
-            return Some(self.end(Ended::Spent));
-        }
-        match self.held.fill(source, most) {
-            Read::Got(count) => {
-                self.read += count as u64;
-                None
-            }
-            Read::End => Some(self.end_source()),
-            Read::Failed => Some(Next::ReadFault),
-        }
-    }
-
-    /// Ends with the source: its bytes are a stream, or are torn.
-    fn end_source(&mut self) -> Next
-        requires going { GoesOn self.old }
-        requires fed { self.old.held ≡ [] }
-        requires stands { (us : List UpdateView) × (bytes : List ℕ) × HasTaken us self.old bytes }
-        ensures ends { (us : List UpdateView) (bytes : List ℕ) → HasTaken us self.old bytes → EndsSource us bytes result self.new }
-    {
-        if self.framer.resting() {
-            self.end(Ended::End)
-        } else {
-            let at = self.read;
-            self.end(Ended::Torn { at })
-        }
-    }
-
-    /// Ends for good.
-    fn end(&mut self, ended: Ended) -> Next
-        ensures answer { result ≡ answer_of ended }
-        ensures ended { self.new ≡ record self.old { ended = Some ended } }
-    {
-        self.ended = Some(ended);
-        ended.answer()
+        self.reading.next(source)
     }
 }

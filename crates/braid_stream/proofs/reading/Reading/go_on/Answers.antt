@@ -1,6 +1,6 @@
 use Rattle.std.proofs.Common.{◌++◌, ◌∙◌, refl}
 use Rattle.braid_stream.proofs.Taken.{fed_answers, filled_answers, none_at_hand, takes_none, takes_on}
-use Rattle.braid_stream.proofs.update_reader.UpdateReader.go_on.Goals as goal
+use Rattle.braid_stream.proofs.reading.Reading.go_on.Goals as goal
 
 pub reading-init : goal.reading-init
 reading-init g c = record { going = c.requires.going; moved = λ us bytes h. takes_none us bytes c.args.self.now _ c.requires.going h; alone = λ us bytes h a. refl; kept = refl }

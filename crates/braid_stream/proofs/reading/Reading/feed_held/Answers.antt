@@ -1,7 +1,7 @@
 use Rattle.std.proofs.Common.{refl, ap}
-use Rattle.braid_stream.specs.declared.update_reader.UpdateReader.{UpdateReader}
+use Rattle.braid_stream.specs.declared.reading.Reading.{Reading}
 use Rattle.braid_stream.proofs.Taken.{fed_update, fed_fault}
-use Rattle.braid_stream.proofs.update_reader.UpdateReader.feed_held.Goals as goal
+use Rattle.braid_stream.proofs.reading.Reading.feed_held.Goals as goal
 
 pub returns-in-Some-clause-feeds : goal.returns-in-Some-clause-feeds
 returns-in-Some-clause-feeds c us bytes h =
@@ -11,4 +11,4 @@ returns-in-Some-clause-feeds c us bytes h =
 pub returns-in-Frame-clause-feeds : goal.returns-in-Frame-clause-feeds
 returns-in-Frame-clause-feeds c us bytes h =
     fed_fault us c.args.self.now c.end.new.self bytes c.get.result.now h c.in-Err.fault c.in-Frame.fault c.feed.new.self c.end.result (c.in-Err.ensures.feeds us h.fed h.stands) c.in-Frame.is c.get.ensures.value c.end.ensures.answer
-    (ap (λ (r : UpdateReader). r.ended) c.end.ensures.ended)
+    (ap (λ (r : Reading). r.ended) c.end.ensures.ended)

@@ -1,12 +1,12 @@
 use Rattle.std.proofs.Common.{◌<◌, length, ap, arith}
-use Rattle.braid_stream.specs.declared.update_reader.UpdateReader.{UpdateReader}
+use Rattle.braid_stream.specs.declared.reading.Reading.{Reading}
 use Rattle.braid_stream.specs.Readers.{most_bytes}
 use Rattle.braid_stream.proofs.Taken.{spent_cause, source_cause, none_more, ends_here, all_updates}
-use Rattle.braid_stream.proofs.update_reader.UpdateReader.refill.Goals as goal
+use Rattle.braid_stream.proofs.reading.Reading.refill.Goals as goal
 
 pub returns-then-most-eq0-clause-fills : goal.returns-then-most-eq0-clause-fills
 returns-then-most-eq0-clause-fills g c us bytes h =
-    spent_cause us bytes c.args.self.now c.end.new.self c.end.result _ h c.requires.fed c.if-most-eq0.true c.end.ensures.answer (ap (λ (r : UpdateReader). r.ended) c.end.ensures.ended)
+    spent_cause us bytes c.args.self.now c.end.new.self c.end.result _ h c.requires.fed c.if-most-eq0.true c.end.ensures.answer (ap (λ (r : Reading). r.ended) c.end.ensures.ended)
 
 pub returns-in-End-clause-fills : goal.returns-in-End-clause-fills
 returns-in-End-clause-fills g c us bytes h =

@@ -2,7 +2,7 @@ use Rattle.std.proofs.Common.{◌≡◌, ℕ, List, ◌-◌}
 use Rattle.braid_change.specs.Updates.{UpdateView}
 use Rattle.braid_stream.specs.Readers.{HasTaken, GoesOn, HaveAnswer, most_bytes}
 use Rattle.braid_stream.specs.Steps.{TakesOn}
-use Rattle.braid_stream.proofs.update_reader.UpdateReader.go_on.Given as goal
+use Rattle.braid_stream.proofs.reading.Reading.go_on.Given as goal
 
 abbrev pub invariant-reading : goal.invariant-reading
 invariant-reading g l =
