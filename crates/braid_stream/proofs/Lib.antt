@@ -5,3 +5,4 @@ pub mod Windows
 pub mod Framed
 pub mod AtHand
 pub mod Taken
+pub mod Budgets

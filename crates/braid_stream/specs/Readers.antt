@@ -1,5 +1,5 @@
 -- What a reader has taken of a stream, and what it answers next.
-use Rattle.std.specs.Prelude.{◌≡◌, ℕ, ◌<◌, ◌≤◌, List, [], ◌∷◌, ◌++◌, Some, None, length}
+use Rattle.std.specs.Prelude.{◌≡◌, ℕ, ◌-◌, ◌+◌, ◌<◌, ◌≤◌, List, [], ◌∷◌, ◌++◌, Some, None, length}
 use Rattle.braid_io.specs.Outside.{Intake, Moves}
 use Rattle.braid_change.specs.Updates.{UpdateView}
 use Rattle.braid_grammar.specs.Streams.{IsStream, HaveUpdates, BeginsWith, IsTorn}
@@ -39,6 +39,10 @@ pub record HasTaken (us : List UpdateView) (reader : Reading) (bytes : List ℕ)
   pub whole : bytes ≡ fed ++ reader.held
   pub count : reader.read ≡ length bytes
   pub within : length bytes ≤ most_bytes
+
+-- how many bytes a reader may still feed to its framer, within the limit
+abbrev pub budget : Reading → ℕ
+budget reader = most_bytes - reader.read + length reader.held
 
 -- what is true of every reader: it has ended, or has taken some bytes
 abbrev pub IsReadable : Reading → Type 0
