@@ -47,10 +47,7 @@ pub fn reach_of<D: Document>(
             return Ok(reach);
         }
     }
-    let ranges = match ranges_of(alloc, change, doc.len(marks)) {
-        Ok(ranges) => ranges,
-        Err(fault) => return Err(fault),
-    };
+    let ranges = ranges_of(alloc, change, doc.len(marks))?;
     let reach = reached(alloc, doc, marks, ranges)?;
     Ok(reach)
 }

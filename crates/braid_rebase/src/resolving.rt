@@ -79,13 +79,11 @@ pub fn resolve<D: Document>(
     ensures level { IfOk result (λ resolved. resolved.level ≡ 1 + greatest_by (level_of graph.now) update.now.parents) }
     ensures fault { IfErr result (λ fault. IsRebaseFault graph.now (D.removed doc.now) (D.rows doc.now) update.now fault) }
 {
+    // The parents are held, so there was no memory.
     let Ok(marks) = graph.ancestry(alloc, update.parents()) else {
         return Err(RebaseFault::Memory);
     };
-    let reach = match reach_of(alloc, doc, &marks, update.change()) {
-        Ok(reach) => reach,
-        Err(fault) => return Err(fault),
-    };
+    let reach = reach_of(alloc, doc, &marks, update.change())?;
     let Reach {
         ranges,
         first,

@@ -11,7 +11,7 @@ use std::alloc::Global;
 /// Characters that an update inserts together.
 #[derive(Debug, Drop)]
 pub struct Run {
-    /// The element that they stand behind, or none at the front of the text.
+    /// Their origin: the seen element before the range, or none where the range starts at 0.
     pub after: Option<At>,
     pub text: Text,
     /// The number of the first character in its version, counted from 0 through all runs.

@@ -73,7 +73,9 @@ fn place(ordinal: u32) -> At {
 }
 
 fn is_run(run: &Run, after: Option<At>, text: &str, ordinal: u32) -> bool {
-    run.after == after && run.ordinal == ordinal && run.text.chars().len() == text.len()
+    run.after == after
+        && run.ordinal == ordinal
+        && run.text.chars().iter().copied().eq(text.chars())
 }
 
 /// What a change of `abc` is resolved to.
