@@ -13,7 +13,7 @@ use Rattle.braid_tree.proofs.Kept.{same_reading}
 use Rattle.braid_text.proofs.Whole.{IsOrdered, whole_legal}
 use Rattle.braid_text.proofs.Same.{Compatible, same_read, version_agrees, greatest_agrees, same_versions, node_in}
 use Rattle.braid_text.specs.declared.room.Room.{Room}
-use Rattle.braid_text.specs.Answers.{room_in, needs_in, answer_in, find_in, first_missing, over}
+use Rattle.braid_text.specs.Answers.{room_in, needs_in, answer_in, find_in, first_missing, first_full}
 use Rattle.braid_text.proofs.Logs.{held, has_part, has, IsPartOf}
 use Rattle.std.proofs.lemmas.List.{length-map}
 use Rattle.std.specs.List.{Contains}
@@ -202,17 +202,17 @@ module _ (us ks : List UpdateView) (lu : IsLegalLog us) (lk : IsLegalLog ks) (to
       text : List UpdateView → List ℕ
       text os = text_in (versions_in os) u.parents
 
-      each : (os : List UpdateView) (o : Option UpdateView) (p : Option (List ℕ)) → find_in u.id os ≡ o → first_missing u.parents os ≡ p → answer_in room os u ≡ answered u (length (text os)) o p (first_past (text os) u.change) (over (needs_in os u) room)
-      each os o p a b = answer_by room os u o p (first_past (text os) u.change) (over (needs_in os u) room) a b refl refl
+      each : (os : List UpdateView) (o : Option UpdateView) (p : Option (List ℕ)) → find_in u.id os ≡ o → first_missing u.parents os ≡ p → answer_in room os u ≡ answered u (length (text os)) o p (first_past (text os) u.change) (first_full (needs_in os u) room)
+      each os o p a b = answer_by room os u o p (first_past (text os) u.change) (first_full (needs_in os u) room) a b refl refl
 
       go : (o : Option UpdateView) (p : Option (List ℕ)) → find_in u.id us ≡ o → first_missing u.parents us ≡ p → answer_in room us u ≡ answer_in room ks u
       go o p a b = each us o p a b ∙ by o p b ∙ sym (each ks o p (sym (find_same us ks lu lk to from u.id) ∙ a) (sym (missing_same us ks to from u.parents) ∙ b))
         where
           by : (o : Option UpdateView) (p : Option (List ℕ)) → first_missing u.parents us ≡ p
-              → answered u (length (text us)) o p (first_past (text us) u.change) (over (needs_in us u) room) ≡ answered u (length (text ks)) o p (first_past (text ks) u.change) (over (needs_in ks u) room)
+              → answered u (length (text us)) o p (first_past (text us) u.change) (first_full (needs_in us u) room) ≡ answered u (length (text ks)) o p (first_past (text ks) u.change) (first_full (needs_in ks u) room)
           by (Some w) p e = refl
           by None (Some v) e = refl
-          by None None e = ap (λ (t : List ℕ). answered u (length t) None None (first_past t u.change) (over (needs_in us u) room)) (ap chars_of (same_seen u.parents all)) ∙ ap (λ (n : Room). answered u (length (text ks)) None None (first_past (text ks) u.change) (over n room)) (same_needs u all)
+          by None None e = ap (λ (t : List ℕ). answered u (length t) None None (first_past t u.change) (first_full (needs_in us u) room)) (ap chars_of (same_seen u.parents all)) ∙ ap (λ (n : Room). answered u (length (text ks)) None None (first_past (text ks) u.change) (first_full n room)) (same_needs u all)
             where
               all : AllHeld (versions_in us) u.parents
               all i m = has us i (none_missing u.parents us e i m)

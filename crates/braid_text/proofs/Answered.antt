@@ -15,7 +15,7 @@ use Rattle.braid_text.specs.declared.room.Which.{Which}
 use Rattle.braid_text.specs.declared.room.Which.TheVariants.{Resources, Versions, Elements, Deletions, Width}
 use Rattle.braid_text.specs.declared.accept.Accept.{Accept}
 use Rattle.braid_text.specs.declared.accept.Accept.TheVariants.{New, Known, Clash, UnknownParent, OutOfRange, Full, Memory}
-use Rattle.braid_text.specs.Answers.{same_update, find_in, first_missing, needs_in, over, first, judge_held, answer_in, answer_to, IsOver, HasRoom, IsAnswer, refusal_in}
+use Rattle.braid_text.specs.Answers.{same_update, find_in, first_missing, needs_in, first_full, first_there, judge_held, answer_in, answer_to, IsOver, HasRoom, IsAnswer, refusal_in}
 use Rattle.braid_text.proofs.Held.{one_update}
 use Rattle.braid_tree.proofs.Keys.{ids_strict}
 use Rattle.braid_text.proofs.Ties.{holds_log, log_holds}
@@ -80,7 +80,7 @@ abbrev pub IsOverAnswer : Room → Room → Option Accept → Type 0
 IsOverAnswer need room None = HasRoom need room
 IsOverAnswer need room (Some a) = (which : Which) × (n : ℕ) × (left : ℕ) × (a ≡ Full which n left) × IsOver need room which n left
 
-pub over_is : (need room : Room) → IsOverAnswer need room (over need room)
+pub over_is : (need room : Room) → IsOverAnswer need room (first_full need room)
 over_is need room = versions (nat_lt room.versions need.versions) refl
   where
     width : (b : Bool) → nat_lt room.width need.width ≡ b → need.versions ≤ room.versions → need.elements ≤ room.elements → need.deletions ≤ room.deletions
@@ -104,10 +104,10 @@ over_is need room = versions (nat_lt room.versions need.versions) refl
     versions false e = elements (nat_lt room.elements need.elements) refl (lt_false room.versions need.versions e)
 
 -- with room for all, nothing is over
-over_none : (need room : Room) → HasRoom need room → over need room ≡ None
+over_none : (need room : Room) → HasRoom need room → first_full need room ≡ None
 over_none need room h = rw (false_lt room.versions need.versions h.versions, false_lt room.elements need.elements h.elements, false_lt room.deletions need.deletions h.deletions, false_lt room.width need.width h.width)
 
-over_some : (need room : Room) (which : Which) (n left : ℕ) → IsOver need room which n left → over need room ≡ Some (Full which n left)
+over_some : (need room : Room) (which : Which) (n left : ℕ) → IsOver need room which n left → first_full need room ≡ Some (Full which n left)
 over_some need room Resources n left h = absurd h
 over_some need room Versions n left h = rw (true_lt room.versions need.versions (subst (λ (a : ℕ). a < need.versions) h.1 (subst (λ (b : ℕ). left < b) h.0 h.2))) (let a = h.0 in let b = h.1 in cc)
 over_some need room Elements n left h = rw (false_lt room.versions need.versions h.0, true_lt room.elements need.elements (subst (λ (a : ℕ). a < need.elements) h.2 (subst (λ (b : ℕ). left < b) h.1 h.3))) (let a = h.1 in let b = h.2 in cc)
@@ -116,26 +116,26 @@ over_some need room Width n left h = rw (false_lt room.versions need.versions h.
 
 -- the answer by what is found, what is missing, what is past the end and what is over
 abbrev pub answered : UpdateView → ℕ → Option UpdateView → Option (List ℕ) → Option ℕ → Option Accept → Accept
-answered u len o p q full = unwrap_or (first (first (judge_held u o) (first (option_map UnknownParent p) (option_map (λ (n : ℕ). OutOfRange n len) q))) full) New
+answered u len o p q full = unwrap_or (first_there (first_there (judge_held u o) (first_there (option_map UnknownParent p) (option_map (λ (n : ℕ). OutOfRange n len) q))) full) New
 
 pub answer_by : (room : Room) (us : List UpdateView) (u : UpdateView) (o : Option UpdateView) (p : Option (List ℕ)) (q : Option ℕ) (full : Option Accept)
-    → find_in u.id us ≡ o → first_missing u.parents us ≡ p → first_past (text_in (versions_in us) u.parents) u.change ≡ q → over (needs_in us u) room ≡ full
+    → find_in u.id us ≡ o → first_missing u.parents us ≡ p → first_past (text_in (versions_in us) u.parents) u.change ≡ q → first_full (needs_in us u) room ≡ full
     → answer_in room us u ≡ answered u (length (text_in (versions_in us) u.parents)) o p q full
 answer_by room us u o p q full a b c d =
     let len : ℕ = length (text_in (versions_in us) u.parents) in
-    ap (λ x. answered u len x (first_missing u.parents us) (first_past (text_in (versions_in us) u.parents) u.change) (over (needs_in us u) room)) a
-    ∙ ap (λ x. answered u len o x (first_past (text_in (versions_in us) u.parents) u.change) (over (needs_in us u) room)) b
-    ∙ ap (λ x. answered u len o p x (over (needs_in us u) room)) c
+    ap (λ x. answered u len x (first_missing u.parents us) (first_past (text_in (versions_in us) u.parents) u.change) (first_full (needs_in us u) room)) a
+    ∙ ap (λ x. answered u len o x (first_past (text_in (versions_in us) u.parents) u.change) (first_full (needs_in us u) room)) b
+    ∙ ap (λ x. answered u len o p x (first_full (needs_in us u) room)) c
     ∙ ap (λ x. answered u len o p q x) d
 
 pub refused_by : (us : List UpdateView) (u : UpdateView) (o : Option UpdateView) (p : Option (List ℕ)) (q : Option ℕ)
     → find_in u.id us ≡ o → first_missing u.parents us ≡ p → first_past (text_in (versions_in us) u.parents) u.change ≡ q
-    → refusal_in us u ≡ first (judge_held u o) (first (option_map UnknownParent p) (option_map (λ (n : ℕ). OutOfRange n (length (text_in (versions_in us) u.parents))) q))
+    → refusal_in us u ≡ first_there (judge_held u o) (first_there (option_map UnknownParent p) (option_map (λ (n : ℕ). OutOfRange n (length (text_in (versions_in us) u.parents))) q))
 refused_by us u o p q a b c =
     let len : ℕ = length (text_in (versions_in us) u.parents) in
-    ap (λ x. first (judge_held u x) (first (option_map UnknownParent (first_missing u.parents us)) (option_map (λ (n : ℕ). OutOfRange n len) (first_past (text_in (versions_in us) u.parents) u.change)))) a
-    ∙ ap (λ x. first (judge_held u o) (first (option_map UnknownParent x) (option_map (λ (n : ℕ). OutOfRange n len) (first_past (text_in (versions_in us) u.parents) u.change)))) b
-    ∙ ap (λ x. first (judge_held u o) (first (option_map UnknownParent p) (option_map (λ (n : ℕ). OutOfRange n len) x))) c
+    ap (λ x. first_there (judge_held u x) (first_there (option_map UnknownParent (first_missing u.parents us)) (option_map (λ (n : ℕ). OutOfRange n len) (first_past (text_in (versions_in us) u.parents) u.change)))) a
+    ∙ ap (λ x. first_there (judge_held u o) (first_there (option_map UnknownParent x) (option_map (λ (n : ℕ). OutOfRange n len) (first_past (text_in (versions_in us) u.parents) u.change)))) b
+    ∙ ap (λ x. first_there (judge_held u o) (first_there (option_map UnknownParent p) (option_map (λ (n : ℕ). OutOfRange n len) x))) c
 
 module _ (room : Room) (H : List UpdateView) (u : UpdateView) (legal : IsLegal H) (rising : IsRising u.parents) where
   abbrev us : List UpdateView
@@ -151,7 +151,7 @@ module _ (room : Room) (H : List UpdateView) (u : UpdateView) (legal : IsLegal H
   pub is_answer : IsIdentifier u.id → IsBuilt u.parents u.change → IsAnswer room H u (answer_to room H u)
   is_answer identifier built = found_first (find_in u.id us) refl
     where
-      full : (Has us u.id → ⊥) → find_in u.id us ≡ None → first_missing u.parents us ≡ None → first_past t u.change ≡ None → (o : Option Accept) → over (needs_in us u) room ≡ o → IsOverAnswer (needs_in us u) room o → IsAnswer room H u (answer_to room H u)
+      full : (Has us u.id → ⊥) → find_in u.id us ≡ None → first_missing u.parents us ≡ None → first_past t u.change ≡ None → (o : Option Accept) → first_full (needs_in us u) room ≡ o → IsOverAnswer (needs_in us u) room o → IsAnswer room H u (answer_to room H u)
       full out a b c None e is = subst (IsAnswer room H u) (sym (answer_by room us u None None None None a b c e)) (follows_from us u (none a b c) identifier rising built, is)
         where
           none : find_in u.id us ≡ None → first_missing u.parents us ≡ None → first_past t u.change ≡ None → refusal_in us u ≡ None
@@ -159,13 +159,13 @@ module _ (room : Room) (H : List UpdateView) (u : UpdateView) (legal : IsLegal H
       full out a b c (Some x) e (which, n, left, f, is) = subst (IsAnswer room H u) (sym (answer_by room us u None None None (Some x) a b c e ∙ f)) (follows_from us u (refused_by us u None None None a b c) identifier rising built, is)
 
       past : (Has us u.id → ⊥) → find_in u.id us ≡ None → first_missing u.parents us ≡ None → (q : Option ℕ) → first_past t u.change ≡ q → IsAnswer room H u (answer_to room H u)
-      past out a b None c = full out a b c (over (needs_in us u) room) refl (over_is (needs_in us u) room)
-      past out a b (Some n) c = subst (IsAnswer room H u) (sym (answer_by room us u None None (Some n) (over (needs_in us u) room) a b c refl))
+      past out a b None c = full out a b c (first_full (needs_in us u) room) refl (over_is (needs_in us u) room)
+      past out a b (Some n) c = subst (IsAnswer room H u) (sym (answer_by room us u None None (Some n) (first_full (needs_in us u) room) a b c refl))
           (not_holds out, (λ p k. log_holds H p (has_holds us p (none_missing u.parents us b p (contains_member u.parents p k)))), c, refl)
 
       missing : (Has us u.id → ⊥) → find_in u.id us ≡ None → (p : Option (List ℕ)) → first_missing u.parents us ≡ p → IsAnswer room H u (answer_to room H u)
       missing out a None b = past out a b (first_past t u.change) refl
-      missing out a (Some p) b = subst (IsAnswer room H u) (sym (answer_by room us u None (Some p) (first_past t u.change) (over (needs_in us u) room) a b refl refl)) (
+      missing out a (Some p) b = subst (IsAnswer room H u) (sym (answer_by room us u None (Some p) (first_past t u.change) (first_full (needs_in us u) room) a b refl refl)) (
         not_holds out,
         record {
           named = member_contains u.parents p (missing_named u.parents us p b).0;
@@ -175,9 +175,9 @@ module _ (room : Room) (H : List UpdateView) (u : UpdateView) (legal : IsLegal H
       )
 
       same : (w : UpdateView) → find_in u.id us ≡ Some w → (b : Bool) → same_update u w ≡ b → IsAnswer room H u (answer_to room H u)
-      same w a true e = subst (IsAnswer room H u) (sym (answer_by room us u (Some w) (first_missing u.parents us) (first_past t u.change) (over (needs_in us u) room) a refl refl refl ∙ ap (λ (b : Bool). cond b Known (Clash u.id)) e))
+      same w a true e = subst (IsAnswer room H u) (sym (answer_by room us u (Some w) (first_missing u.parents us) (first_past t u.change) (first_full (needs_in us u) room) a refl refl refl ∙ ap (λ (b : Bool). cond b Known (Clash u.id)) e))
           (from_log H u (subst (λ (x : UpdateView). Member x us) (sym ((updates_Decide u w).0 e)) (found u.id us w a).0))
-      same w a false e = subst (IsAnswer room H u) (sym (answer_by room us u (Some w) (first_missing u.parents us) (first_past t u.change) (over (needs_in us u) room) a refl refl refl ∙ ap (λ (b : Bool). cond b Known (Clash u.id)) e))
+      same w a false e = subst (IsAnswer room H u) (sym (answer_by room us u (Some w) (first_missing u.parents us) (first_past t u.change) (first_full (needs_in us u) room) a refl refl refl ∙ ap (λ (b : Bool). cond b Known (Clash u.id)) e))
           (refl, log_holds H u.id (has_holds us u.id (w, (found u.id us w a).0, (found u.id us w a).1)), λ c. different c)
         where
           different : Contains H u → ⊥
@@ -198,7 +198,7 @@ module _ (room : Room) (H : List UpdateView) (u : UpdateView) (legal : IsLegal H
   unmissed : HoldsAll (graph_of H) u.parents → first_missing u.parents us ≡ None
   unmissed all = missing_none u.parents us (λ p m. holds_has us p (holds_log H p (all p (member_contains u.parents p m))))
 
-  after_follows : Follows us u → (full : Option Accept) → over (needs_in us u) room ≡ full → answer_to room H u ≡ answered u (length t) None None None full
+  after_follows : Follows us u → (full : Option Accept) → first_full (needs_in us u) room ≡ full → answer_to room H u ≡ answered u (length t) None None None full
   after_follows f full e = answer_by room us u None None None full (unfound (λ h. f.new (holds_log H u.id h))) (missing_none u.parents us (follows_held us u f)) (fits_to t u.change f.fits) e
 
   -- an answer that fits is the one that is computed, or want of memory
@@ -211,12 +211,12 @@ module _ (room : Room) (H : List UpdateView) (u : UpdateView) (legal : IsLegal H
       go None e = absurd (not_found u.id us e (u, in_log H u c, refl))
       go (Some w) e =
           let one : u ≡ w = one_update us legal u w (in_log H u c) (found u.id us w e).0 (sym (found u.id us w e).1) in
-          answer_by room us u (Some w) (first_missing u.parents us) (first_past t u.change) (over (needs_in us u) room) e refl refl refl ∙ ap (λ (b : Bool). cond b Known (Clash u.id)) ((updates_Decide u w).1 one)
+          answer_by room us u (Some w) (first_missing u.parents us) (first_past t u.change) (first_full (needs_in us u) room) e refl refl refl ∙ ap (λ (b : Bool). cond b Known (Clash u.id)) ((updates_Decide u w).1 one)
   one_answer (Clash v) (is, there, out) = inr (sym (go (find_in u.id us) refl))
     where
       go : (o : Option UpdateView) → find_in u.id us ≡ o → answer_to room H u ≡ Clash v
       go None e = absurd (not_found u.id us e (subst (Has us) is (holds_has us v (holds_log H v there))))
-      go (Some w) e = answer_by room us u (Some w) (first_missing u.parents us) (first_past t u.change) (over (needs_in us u) room) e refl refl refl ∙ by (same_update u w) refl
+      go (Some w) e = answer_by room us u (Some w) (first_missing u.parents us) (first_past t u.change) (first_full (needs_in us u) room) e refl refl refl ∙ by (same_update u w) refl
         where
           by : (b : Bool) → same_update u w ≡ b → cond b Known (Clash u.id) ≡ Clash v
           by true f = absurd (out (from_log H u (subst (λ (x : UpdateView). Member x us) (sym ((updates_Decide u w).0 f)) (found u.id us w e).0)))
@@ -225,12 +225,12 @@ module _ (room : Room) (H : List UpdateView) (u : UpdateView) (legal : IsLegal H
     where
       go : (p : Option (List ℕ)) → first_missing u.parents us ≡ p → answer_to room H u ≡ UnknownParent v
       go None e = absurd (is.unheld (log_holds H v (has_holds us v (none_missing u.parents us e v (contains_member u.parents v is.named)))))
-      go (Some p) e = answer_by room us u None (Some p) (first_past t u.change) (over (needs_in us u) room) (unfound out) e refl refl ∙ ap UnknownParent (one_least p v first_le v_le)
+      go (Some p) e = answer_by room us u None (Some p) (first_past t u.change) (first_full (needs_in us u) room) (unfound out) e refl refl ∙ ap UnknownParent (one_least p v first_le v_le)
         where
           first_le : id_cmp p v ≢ Greater
           first_le = missing_least u.parents us p rising e v (contains_member u.parents v is.named) (λ h. is.unheld (log_holds H v (has_holds us v h)))
 
           v_le : id_cmp v p ≢ Greater
           v_le = is.least p (member_contains u.parents p (missing_named u.parents us p e).0) (λ h. not_has us p (missing_named u.parents us p e).1 (holds_has us p (holds_log H p h)))
-  one_answer (OutOfRange n len) (out, all, past, is) = inr (sym (answer_by room us u None None (Some n) (over (needs_in us u) room) (unfound out) (unmissed all) past refl ∙ ap (λ (k : ℕ). OutOfRange n k) (sym is)))
+  one_answer (OutOfRange n len) (out, all, past, is) = inr (sym (answer_by room us u None None (Some n) (first_full (needs_in us u) room) (unfound out) (unmissed all) past refl ∙ ap (λ (k : ℕ). OutOfRange n k) (sym is)))
   one_answer Memory h = inl refl

@@ -16,7 +16,7 @@ use Rattle.braid_tree.specs.Trees.{Member}
 use Rattle.braid_tree.proofs.Keys.{ids_strict, eq_true, eq_itself}
 use Rattle.braid_text.proofs.Whole.{and_cases}
 use Rattle.braid_text.proofs.Same.{and_true}
-use Rattle.braid_text.specs.Answers.{same_patch, same_change, same_update, find_in, first_missing, first, judge_held, refusal_in}
+use Rattle.braid_text.specs.Answers.{same_patch, same_change, same_update, find_in, first_missing, first_there, judge_held, refusal_in}
 use Rattle.braid_text.specs.declared.accept.Accept.{Accept}
 use Rattle.braid_text.specs.declared.accept.Accept.TheVariants.{Known, Clash, UnknownParent, OutOfRange}
 use Rattle.braid_text.proofs.Logs.{Has, held, has, follows_held, has_holds, holds_has}
@@ -121,7 +121,7 @@ fits_to t c h = go (first_past t c) refl
     go None e = refl
     go (Some n) e = absurd (let p : spliced t c ≡ None = (undefined_past t c).1 (ap is_some e) in let q : is_some (spliced t c) ≡ false = ap is_some p in cc)
 
-pub first_none : (a b : Option Accept) → first a b ≡ None → (a ≡ None) × (b ≡ None)
+pub first_none : (a b : Option Accept) → first_there a b ≡ None → (a ≡ None) × (b ≡ None)
 first_none (Some a) b h = cc
 first_none None b h = (refl, h)
 
@@ -135,7 +135,7 @@ map_none f None h = refl
 
 -- an update that is not refused, has an identifier and rising parents and was built may follow
 pub follows_from : (us : List UpdateView) (u : UpdateView) → refusal_in us u ≡ None → IsIdentifier u.id → IsRising u.parents → IsBuilt u.parents u.change → Follows us u
-follows_from us u h identifier rising built = go (first_none (judge_held u (find_in u.id us)) (first parents_part range_part) h)
+follows_from us u h identifier rising built = go (first_none (judge_held u (find_in u.id us)) (first_there parents_part range_part) h)
   where
     t : List ℕ
     t = text_in (versions_in us) u.parents
@@ -146,7 +146,7 @@ follows_from us u h identifier rising built = go (first_none (judge_held u (find
     range_part : Option Accept
     range_part = option_map (λ (n : ℕ). OutOfRange n (length t)) (first_past t u.change)
 
-    go : (judge_held u (find_in u.id us) ≡ None) × (first parents_part range_part ≡ None) → Follows us u
+    go : (judge_held u (find_in u.id us) ≡ None) × (first_there parents_part range_part ≡ None) → Follows us u
     go (a, b) = let c = first_none parents_part range_part b in record {
       new = λ h. not_found u.id us (held_none u (find_in u.id us) a) (holds_has us u.id h);
       named = identifier;
@@ -165,13 +165,13 @@ judged_well us u one next = go (find_in u.id us) refl
     t = text_in (versions_in us) u.parents
 
     rest : Option Accept
-    rest = first (option_map UnknownParent (first_missing u.parents us)) (option_map (λ (n : ℕ). OutOfRange n (length t)) (first_past t u.change))
+    rest = first_there (option_map UnknownParent (first_missing u.parents us)) (option_map (λ (n : ℕ). OutOfRange n (length t)) (first_past t u.change))
 
-    go : (o : Option UpdateView) → find_in u.id us ≡ o → ((first (judge_held u o) rest ≡ Some Known) × Member u us) ⊎ ((first (judge_held u o) rest ≡ None) × (Has us u.id → ⊥))
+    go : (o : Option UpdateView) → find_in u.id us ≡ o → ((first_there (judge_held u o) rest ≡ Some Known) × Member u us) ⊎ ((first_there (judge_held u o) rest ≡ None) × (Has us u.id → ⊥))
     go (Some w) e = let f = found u.id us w e in let g : w ≡ u = one w f.0 f.1 in
         inl (ap (λ (b : Bool). Some (cond b Known (Clash u.id))) ((updates_Decide u w).1 (sym g)), subst (λ (x : UpdateView). Member x us) g f.0)
     go None e = let f = next (not_found u.id us e) in inr (
-      (ap (λ (o : Option (List ℕ)). first (option_map UnknownParent o) (option_map (λ (n : ℕ). OutOfRange n (length t)) (first_past t u.change))) (missing_none u.parents us (follows_held us u f))
+      (ap (λ (o : Option (List ℕ)). first_there (option_map UnknownParent o) (option_map (λ (n : ℕ). OutOfRange n (length t)) (first_past t u.change))) (missing_none u.parents us (follows_held us u f))
           ∙ ap (λ (o : Option ℕ). option_map (λ (n : ℕ). OutOfRange n (length t)) o) (fits_to t u.change f.fits)),
       not_found u.id us e,
     )

@@ -1,6 +1,7 @@
 -- Runs put into a document: one more run, and what that leaves of the others.
-use Rattle.std.proofs.Common.{◌≡◌, ℕ, zero, suc, ◌+◌, ◌-◌, ◌<◌, ◌≤◌, List, [], ◌∷◌, ◌++◌, length, map, take, drop, get_or, Option, Some, None, refl, sym, ap, subst, ◌∙◌, inl, inr, ◌⊎◌, Less, slice_get, MatchOption, arith, append_assoc}
+use Rattle.std.proofs.Common.{◌≡◌, ℕ, zero, suc, ◌+◌, ◌-◌, ◌<◌, ◌≤◌, List, [], ◌∷◌, ◌++◌, true, ◌==◌, length, map, take, drop, get_or, Option, Some, None, refl, sym, ap, subst, ◌∙◌, inl, inr, ◌⊎◌, Less, slice_get, MatchOption, arith, append_assoc}
 use Rattle.std.specs.List.{AllByRecursion}
+use Rattle.std.proofs.lemmas.Bool.Decides.{nat_tests}
 use Rattle.std.proofs.lemmas.List.{take_more, drop_more, map-append}
 use Rattle.std.proofs.lemmas.List.Sums.{sum_by-cons, sum_by-append, sum_by-take-drop}
 use Rattle.braid_change.specs.declared.patch.Patch.{Patch}
@@ -77,6 +78,20 @@ runs_more vs rows mid new first runs placed more d N n (r ∷ rs) puts of =
 
     puts' : Puts vs mid next N (n + length r.text)
     puts' = record { tree = facts.0; listed = listed; members = λ z m. old_with_nodes z (run (next_key vs) above n r.text) d (puts.members z m); under = puts.under; new = facts.1 }
+
+pub empty_text : (text : List ℕ) → (length text == 0) ≡ true → text ≡ []
+empty_text text e = go text (none (length text) e)
+  where
+    none : (n : ℕ) → (n == 0) ≡ true → n ≡ 0
+    none n e = grind (arith, nat_tests)
+
+    go : (text : List ℕ) → length text ≡ 0 → text ≡ []
+    go [] e = refl
+    go (x ∷ text) e = absurd (omega (arith, e))
+
+-- a run without text changes nothing
+pub empty_run : (vs : List Stamp) (rows : List Row) (r : Run) → r.text ≡ [] → ListsWithRun vs rows rows r.after r.ordinal r.text
+empty_run vs rows r e = subst (λ (t : List ℕ). ListsWithRun vs rows rows r.after r.ordinal t) (sym e) (λ es above inserts. inserts.listed)
 
 pub runs_end : (vs : List Stamp) (rows : List Row) → ListsWithRuns vs rows rows []
 runs_end vs rows d N n [] puts of = puts.listed

@@ -29,7 +29,7 @@ use Rattle.braid_text.specs.declared.accept.Accept.TheVariants.{New, Known, Clas
 use Rattle.braid_text.specs.declared.room.Room.{Room}
 use Rattle.braid_text.specs.declared.room.Which.{Which}
 use Rattle.braid_text.specs.Histories.{IsLegal, MayFollow, graph_of, entry_of, text_at, document_of, elements_of, deletions_of}
-use Rattle.braid_text.specs.Answers.{needs_of, over, IsAnswer, IsOver}
+use Rattle.braid_text.specs.Answers.{needs_of, first_full, HasRoom, IsAnswer, IsOver}
 use Rattle.braid_text.specs.Judging.{IsHeldAnswer, NamesParent}
 use Rattle.braid_text.specs.Puts.{AreOver, AreThere, AreDifferent, ListsWithRuns, total_len, deletion_by}
 use Rattle.braid_text.specs.Standing.{Stands, IsTakable, named_deletion}
@@ -129,16 +129,18 @@ module _ (H : List UpdateView) (es : List GraphEntry) (vs : List Stamp) (rows : 
         let w : need.width ≡ (needs_of H u).width = d ∙ ap (λ (t : List GraphEntry). length (frontier_of (t ++ entry_of u ∷ []))) stands.graph ∙ ap (λ (t : List GraphEntry). length (frontier_of t)) (sym (map-append entry_of H (u ∷ []))) ∙ sym (width_after H u) in
         (λ i. record { versions = a i; elements = e i; deletions = f i; width = w i })
 
-    pub over_fits : (need room : Room) (a : Accept) → need ≡ needs_of H u → Some a ≡ over need room → IsAnswer room H u a × (a ≡ New → ⊥)
-    over_fits need room a same is = go (subst (IsOverAnswer (needs_of H u) room) (ap (λ (n : Room). over n room) (sym same) ∙ sym is) (over_is (needs_of H u) room))
+    pub over_fits : (need room : Room) (a : Accept) → need ≡ needs_of H u → Some a ≡ first_full need room → IsAnswer room H u a × (a ≡ New → ⊥)
+    over_fits need room a same is = go (subst (IsOverAnswer (needs_of H u) room) (ap (λ (n : Room). first_full n room) (sym same) ∙ sym is) (over_is (needs_of H u) room))
       where
         go : (which : Which) × (n : ℕ) × (left : ℕ) × (a ≡ Full which n left) × IsOver (needs_of H u) room which n left → IsAnswer room H u a × (a ≡ New → ⊥)
         go (which, n, left, e, o) = (subst (IsAnswer room H u) (sym e) (may, o), λ f. full_not_new which n left (sym e ∙ f))
 
-    pub takable : (need room : Room) → need ≡ needs_of H u → None ≡ over need room → resolved.level ≡ 1 + greatest_by (level_of es) u.parents → IsTakable H ds rows room u resolved
-    takable need room same is level = record {
+    pub roomy : (need room : Room) → need ≡ needs_of H u → None ≡ first_full need room → HasRoom (needs_of H u) room
+    roomy need room same is = subst (IsOverAnswer (needs_of H u) room) (ap (λ (n : Room). first_full n room) (sym same) ∙ sym is) (over_is (needs_of H u) room)
+
+    pub takable : resolved.level ≡ 1 + greatest_by (level_of es) u.parents → IsTakable H ds rows u resolved
+    takable level = record {
       follows = may;
-      roomy = subst (IsOverAnswer (needs_of H u) room) (ap (λ (n : Room). over n room) (sym same) ∙ sym is) (over_is (needs_of H u) room);
       seen = (ok.0, seen_there, ok.2);
       level = level ∙ ap (λ (t : List GraphEntry). 1 + greatest_by (level_of t) u.parents) stands.graph;
     }
@@ -168,7 +170,7 @@ pub deletions_kept : (H : List UpdateView) (es : List GraphEntry) (vs : List Sta
 deletions_kept H es vs rows ds stands = sym (length-map ds (named_deletion vs)) ∙ sym (length_permutation (map (named_deletion vs) ds) (deletions_of H) stands.deleted)
 
 -- what a takable update was resolved to
-module _ (H : List UpdateView) (es : List GraphEntry) (vs : List Stamp) (rows : List Row) (ds : List RowDeletion) (stands : Stands H es vs rows ds) (room : Room) (u : UpdateView) (resolved : Resolved) (t : IsTakable H ds rows room u resolved) where
+module _ (H : List UpdateView) (es : List GraphEntry) (vs : List Stamp) (rows : List Row) (ds : List RowDeletion) (stands : Stands H es vs rows ds) (u : UpdateView) (resolved : Resolved) (t : IsTakable H ds rows u resolved) where
   parents_there : HoldsAll (graph_of H) u.parents
   parents_there = ((may_follow H u).0 t.follows).2
 
@@ -219,5 +221,5 @@ number_within H es same n v at = go (held_number H v n (ap (λ (t : List GraphEn
     go (w, e, f) = slice_get_within H n w e
 
 -- an update that may follow is not one of the history
-pub takable_new : (H : List UpdateView) (ds : List RowDeletion) (rows : List Row) (room : Room) (u : UpdateView) (resolved : Resolved) → IsTakable H ds rows room u resolved → Contains H u → ⊥
-takable_new H ds rows room u resolved t c = ((may_follow H u).0 t.follows).0 (contains_holds H u c)
+pub takable_new : (H : List UpdateView) (ds : List RowDeletion) (rows : List Row) (u : UpdateView) (resolved : Resolved) → IsTakable H ds rows u resolved → Contains H u → ⊥
+takable_new H ds rows u resolved t c = ((may_follow H u).0 t.follows).0 (contains_holds H u c)

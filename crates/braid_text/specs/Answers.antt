@@ -52,8 +52,8 @@ needs_in us u =
     record { versions = 1; elements = length v.nodes; deletions = length v.deleted; width = length (frontier_of (graph_of (u ∷ us))) }
 
 -- the first count, in the order of `Which`, of which more is needed than there is room
-abbrev pub over : Room → Room → Option Accept
-over need room =
+abbrev pub first_full : Room → Room → Option Accept
+first_full need room =
     if nat_lt room.versions need.versions then Some (Full Versions need.versions room.versions) else
     (if nat_lt room.elements need.elements then Some (Full Elements need.elements room.elements) else
     (if nat_lt room.deletions need.deletions then Some (Full Deletions need.deletions room.deletions) else
@@ -69,9 +69,9 @@ room_in limits us = record {
 }
 
 -- the first of two answers that is there
-abbrev pub first : Option Accept → Option Accept → Option Accept
-first (Some a) b = Some a
-first None b = b
+abbrev pub first_there : Option Accept → Option Accept → Option Accept
+first_there (Some a) b = Some a
+first_there None b = b
 
 -- the answer where an update with the identifier is held
 abbrev pub judge_held : UpdateView → Option UpdateView → Option Accept
@@ -82,13 +82,13 @@ judge_held u None = None
 abbrev pub refusal_in : List UpdateView → UpdateView → Option Accept
 refusal_in us u =
     let t = text_in (versions_in us) u.parents in
-    first (judge_held u (find_in u.id us))
-    (first (option_map UnknownParent (first_missing u.parents us))
+    first_there (judge_held u (find_in u.id us))
+    (first_there (option_map UnknownParent (first_missing u.parents us))
     (option_map (λ (n : ℕ). OutOfRange n (length t)) (first_past t u.change)))
 
 -- the answer: the first refusal, then the first count that is over, then New
 abbrev pub answer_in : Room → List UpdateView → UpdateView → Accept
-answer_in room us u = unwrap_or (first (refusal_in us u) (over (needs_in us u) room)) New
+answer_in room us u = unwrap_or (first_there (refusal_in us u) (first_full (needs_in us u) room)) New
 
 -- what an update needs beside a history
 abbrev pub needs_of : List UpdateView → UpdateView → Room

@@ -12,8 +12,6 @@ use Rattle.braid_tree.specs.Rows.{Stamp, Row, AreKnown, element_at, key_at, plac
 use Rattle.braid_tree.specs.Rows.{RowDeletion}
 use Rattle.braid_text.specs.Versions.{Version}
 use Rattle.braid_text.specs.Histories.{graph_of, versions_at, document_of, Deletion, deletions_of, IsLegal, MayFollow}
-use Rattle.braid_text.specs.Answers.{needs_of, HasRoom}
-use Rattle.braid_text.specs.declared.room.Room.{Room}
 
 abbrev pub stamp_in : Version → Stamp
 stamp_in v = record { id = v.id; level = v.level }
@@ -45,9 +43,8 @@ pub record Stands (H : List UpdateView) (es : List GraphEntry) (vs : List Stamp)
   pub known : AreKnown vs rows
   pub known_deletions : (d : RowDeletion) → Contains ds d → IsKnownDeletion vs d
 
--- an update may follow, there is room for it, and this is what it was resolved to
-pub record IsTakable (H : List UpdateView) (ds : List RowDeletion) (rows : List Row) (room : Room) (u : UpdateView) (resolved : Resolved) : Type 0 where
+-- an update may follow, and this is what it was resolved to
+pub record IsTakable (H : List UpdateView) (ds : List RowDeletion) (rows : List Row) (u : UpdateView) (resolved : Resolved) : Type 0 where
   pub follows : MayFollow H u
-  pub roomy : HasRoom (needs_of H u) room
   pub seen : (S : List Row) × IsSeenAt (graph_of H) u.parents ds rows S × IsResolved S u.change resolved
   pub level : resolved.level ≡ 1 + greatest_by (level_of (graph_of H)) u.parents

@@ -44,7 +44,12 @@ fn put_runs<D: Document>(doc: &mut D, runs: &[Run])
     ensures known { AreKnown (D.stamps doc.new) (D.rows doc.new) }
 {
     for run in runs {
-        doc.insert_run(run.after, run.text.chars(), run.ordinal);
+        let text = run.text.chars();
+        // A run without text would only cost a look-up.
+        if text.is_empty() {
+            continue;
+        }
+        doc.insert_run(run.after, text, run.ordinal);
     }
 }
 

@@ -2,14 +2,15 @@
 
 ghost use Rattle.std.specs.Prelude.{◌≡◌, ◌≢◌, ◌+◌, ◌<◌, ◌≤◌, ◌++◌, ◌∷◌, [], Ok, Err, IfOk, IfErr, OnOk, OnErr, length, map, Contains};
 ghost use Rattle.braid_graph.specs.Ancestries.{IsUnknown};
+ghost use Rattle.braid_graph.specs.Entries.{HoldsAll};
 ghost use Rattle.braid_text.specs.Histories.{graph_of, text_at, elements_of, deletions_of};
-ghost use Rattle.braid_text.specs.Answers.{needs_of, IsAnswer};
+ghost use Rattle.braid_text.specs.Answers.{needs_of, HasRoom, IsAnswer};
 ghost use Rattle.braid_text.specs.Standing.{Stands, IsTakable};
 ghost use Rattle.braid_text.specs.declared.accept.Accept.TheVariants.{New, Known};
 
 use crate::accept::Accept;
 use crate::adding::add_version;
-use crate::judging::{answer_held, over, read_parts, text_len, unknown_parent};
+use crate::judging::{answer_held, first_full, read_parts, text_len, unknown_parent};
 use crate::room::Room;
 use braid_change::{Text, Update};
 use braid_graph::Graph;
@@ -30,7 +31,8 @@ impl<D: Document> History<D> {
     /// What an update adds where it can be taken, or the answer that it gets.
     pub fn judge(&self, alloc: Global, update: &Update, room: &Room) -> Result<Resolved, Accept>
         requires stands { Stands self.now.updates.items self.now.graph (D.stamps self.now.document) (D.rows self.now.document) (D.removed self.now.document) }
-        ensures ok { IfOk result (λ resolved. IsTakable self.now.updates.items (D.removed self.now.document) (D.rows self.now.document) room.now update.now resolved) }
+        ensures ok { IfOk result (λ resolved. IsTakable self.now.updates.items (D.removed self.now.document) (D.rows self.now.document) update.now resolved) }
+        ensures room { OnOk result (HasRoom (needs_of self.now.updates.items update.now) room.now) }
         ensures refusal { IfErr result (λ answer. IsAnswer room.now self.now.updates.items update.now answer × (answer ≢ New)) }
         ensures known { Contains self.now.updates.items update.now → result ≡ Err Known }
     {
@@ -48,6 +50,7 @@ impl<D: Document> History<D> {
             }
             Err(RebaseFault::Memory) => return Err(Accept::Memory),
         };
+        // It does nothing when it runs: the proof learns from it that the update is built.
         read_parts(update);
         let need = Room {
             versions: 1,
@@ -55,7 +58,7 @@ impl<D: Document> History<D> {
             deletions: resolved.deletes.len() as u64,
             width: self.graph.width_after(update.parents()) as u64,
         };
-        match over(&need, room) {
+        match first_full(&need, room) {
             Some(full) => Err(full),
             None => Ok(resolved),
         }
@@ -64,18 +67,12 @@ impl<D: Document> History<D> {
     /// Takes an update as it was resolved.
     ///
     /// Errors: `Memory` where there was none to grow; nothing is changed then.
-    pub fn take(
-        &mut self,
-        alloc: Global,
-        update: Update,
-        resolved: Resolved,
-        room: &Room,
-    ) -> Result<(), Memory>
+    pub fn take(&mut self, alloc: Global, update: Update, resolved: Resolved) -> Result<(), Memory>
         requires stands { Stands self.old.updates.items self.old.graph (D.stamps self.old.document) (D.rows self.old.document) (D.removed self.old.document) }
-        requires takable { IsTakable self.old.updates.items (D.removed self.old.document) (D.rows self.old.document) room.now update resolved }
-        requires versions { length self.old.updates.items + room.now.versions ≤ 524288 }
-        requires elements { length (elements_of self.old.updates.items) + room.now.elements ≤ 33554432 }
-        requires deletions { length (deletions_of self.old.updates.items) + room.now.deletions ≤ 67108864 }
+        requires takable { IsTakable self.old.updates.items (D.removed self.old.document) (D.rows self.old.document) update resolved }
+        requires versions { length self.old.updates.items < 524288 }
+        requires elements { length (elements_of self.old.updates.items) + (needs_of self.old.updates.items update).elements ≤ 33554432 }
+        requires deletions { length (deletions_of self.old.updates.items) + (needs_of self.old.updates.items update).deletions ≤ 67108864 }
         ensures taken { OnOk result (self.new.updates.items ≡ self.old.updates.items ++ update ∷ []) }
         ensures kept { OnErr result (self.new.updates.items ≡ self.old.updates.items) }
         ensures stands { Stands self.new.updates.items self.new.graph (D.stamps self.new.document) (D.rows self.new.document) (D.removed self.new.document) }
@@ -96,7 +93,7 @@ impl<D: Document> History<D> {
     /// What is read at a frontier.
     pub fn read(&self, alloc: Global, at: &Frontier) -> Result<Text, Unknown>
         requires stands { Stands self.now.updates.items self.now.graph (D.stamps self.now.document) (D.rows self.now.document) (D.removed self.now.document) }
-        ensures ok { IfOk result (λ text. text ≡ text_at self.now.updates.items at.now) }
+        ensures ok { IfOk result (λ text. HoldsAll (graph_of self.now.updates.items) at.now × (text ≡ text_at self.now.updates.items at.now)) }
         ensures fault { IfErr result (λ unknown. IsUnknown (graph_of self.now.updates.items) at.now unknown) }
     {
         let marks = match self.graph.ancestry(alloc, at) {

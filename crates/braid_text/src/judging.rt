@@ -4,7 +4,7 @@ ghost use Rattle.std.specs.Prelude.{◌≡◌, ◌<◌, ◌^◌};
 ghost use Rattle.braid_ids.specs.Identifiers.{IsIdentifier};
 ghost use Rattle.braid_ids.specs.Frontiers.{IsRising};
 ghost use Rattle.braid_change.specs.Updates.{IsBuilt};
-ghost use Rattle.braid_text.specs.Answers.{over};
+ghost use Rattle.braid_text.specs.Answers.{first_full};
 ghost use Rattle.braid_text.specs.Puts.{total_len};
 ghost use Rattle.braid_text.specs.Judging.{IsHeldAnswer, NamesParent};
 ghost use Rattle.braid_text.specs.declared.accept.Accept.TheVariants.{Known, Full};
@@ -41,8 +41,8 @@ pub fn unknown_parent(alloc: Global, id: &Id) -> Accept
 }
 
 /// The first count of which more is needed than there is room.
-pub fn over(need: &Room, room: &Room) -> Option<Accept>
-    ensures over { result ≡ over need.now room.now }
+pub fn first_full(need: &Room, room: &Room) -> Option<Accept>
+    ensures full { result ≡ first_full need.now room.now }
 {
     if need.versions > room.versions {
         return Some(full(Which::Versions, need.versions, room.versions));

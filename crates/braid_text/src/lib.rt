@@ -3,7 +3,7 @@
 //! A history is a list of updates in order of arrival, each of which may follow those before it. From it follow the
 //! elements and deletions of its versions, the document of all elements in the reading order of `braid_tree`, and what is
 //! read at a frontier: the characters of the elements that the frontier's ancestry inserts and does not delete. Versions,
-//! parents and patches are those of draft-toomim-httpbis-braid-http-04.
+//! parents and patches are after draft-toomim-httpbis-braid-http-04.
 //!
 //! A `Resource` is such a history, with its version graph and a document of its elements beside it. It takes an update or
 //! says why not, and reads its text at each frontier; a refused update changes nothing.

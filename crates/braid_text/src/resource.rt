@@ -57,8 +57,11 @@ impl Resource {
     /// Takes an update, or says why not: the first of `Accept`'s answers that holds, but New only where no other does.
     ///
     /// The ranges of the update count the characters that are read at its parents. `room` is what there is room for
-    /// beside the updates that are held; with it there are at most 524,288 versions, 33,554,432 elements and
-    /// 67,108,864 deletions.
+    /// beside what is held; its `width` is for the whole frontier afterwards. The caller sees to it that what is held
+    /// and `room` come to at most 524,288 versions, 33,554,432 elements and 67,108,864 deletions.
+    ///
+    /// It costs a pass over the elements up to the end of the last patch, and for a body two over all of them; each run
+    /// with text and each deletion looks its element up from the end of the elements, and a run moves what follows it.
     ///
     /// An answer other than New leaves the resource as it was, and the update is dropped. Known takes no memory.
     pub fn accept(&mut self, alloc: Global, update: Update, room: &Room) -> Accept
@@ -74,7 +77,7 @@ impl Resource {
             Ok(resolved) => resolved,
             Err(answer) => return answer,
         };
-        match self.history.take(alloc, update, resolved, room) {
+        match self.history.take(alloc, update, resolved) {
             Ok(()) => Accept::New,
             Err(_) => Accept::Memory,
         }
@@ -84,7 +87,7 @@ impl Resource {
     ///
     /// Errors: `Unknown::Id` with the least member that is not held, or `Unknown::Memory`.
     pub fn read(&self, alloc: Global, at: &Frontier) -> Result<Text, Unknown>
-        ensures ok { IfOk result (λ text. text ≡ text_at self.now at.now) }
+        ensures ok { IfOk result (λ text. HoldsAll (graph_of self.now) at.now × (text ≡ text_at self.now at.now)) }
         ensures fault { IfErr result (λ unknown. IsUnknown (graph_of self.now) at.now unknown) }
     {
         self.history.read(alloc, at)

@@ -4,15 +4,22 @@ ghost use Rattle.std.specs.Prelude.{◌≡◌};
 
 use super::*;
 use braid_change::{Change, ListPatch, Patch, Text, Update};
-use braid_ids::{Frontier, Id};
+use braid_ids::{Frontier, Id, Unknown};
 use std::alloc::Global;
 use std::test::Fail;
 
-/// What an update does: a whole body, or one patch.
+/// SHA-256 of no bytes (FIPS 180-4).
+const NO_BYTES: [u8; 32] = [
+    0xe3, 0xb0, 0xc4, 0x42, 0x98, 0xfc, 0x1c, 0x14, 0x9a, 0xfb, 0xf4, 0xc8, 0x99, 0x6f, 0xb9, 0x24,
+    0x27, 0xae, 0x41, 0xe4, 0x64, 0x9b, 0x93, 0x4c, 0xa4, 0x95, 0x99, 0x1b, 0x78, 0x52, 0xb8, 0x55,
+];
+
+/// What an update does: a whole body, one patch, or no patch.
 #[derive(Clone, Copy)]
 enum Edit<'a> {
     Body(&'a str),
     Patch(u32, u32, &'a str),
+    Nothing,
 }
 
 /// The answer that is wanted.
@@ -72,6 +79,7 @@ fn change_of(alloc: Global, edit: Edit<'_>) -> Result<Change, Fail> {
             let patch = Patch { start, end, text };
             Ok(Change::Patches(ListPatch::of(vec![in alloc; patch]?)))
         }
+        Edit::Nothing => Ok(Change::Patches(ListPatch::of(Vec::new(alloc)))),
     }
 }
 
@@ -286,4 +294,116 @@ fn each_refusal_comes_in_its_order(rt: HostRuntime) -> Result<(), Fail> {
         (2, wanted("w-1", "", Edit::Body(""), Want::New)),
     ];
     check_answers(rt.alloc(), &rows)
+}
+
+/// Whether these are all members of a frontier, in rising order.
+fn has_members(frontier: &Frontier, names: &[&str]) -> bool {
+    if frontier.len() as usize != names.len() {
+        return false;
+    }
+    for n in 0..frontier.len() {
+        let Some(id) = frontier.get(n) else {
+            return false;
+        };
+        if id.bytes() != names[n as usize].as_bytes() {
+            return false;
+        }
+    }
+    true
+}
+
+/// Two roots, and an update that merges them and changes nothing.
+fn merged(alloc: Global) -> Result<Resource, Fail> {
+    let rows = [
+        new_offer("a-1", "", Edit::Body("A")),
+        new_offer("b-1", "", Edit::Body("B")),
+        new_offer("m-1", "a-1 b-1", Edit::Nothing),
+    ];
+    given(alloc, &rows)
+}
+
+#[test]
+fn a_merge_without_patches_leaves_the_text(rt: HostRuntime) -> Result<(), Fail> {
+    let alloc = rt.alloc();
+    let resource = merged(alloc)?;
+    check(reads(alloc, &resource, "BA")?, "the text")?;
+    check(reads_at(alloc, &resource, "a-1 b-1", "BA")?, "the parents")?;
+    let frontier = resource.frontier(alloc)?;
+    check(has_members(&frontier, &["m-1"]), "the frontier")?;
+    check(resource.width() == 1, "the width")
+}
+
+#[test]
+fn a_resource_begins_without_updates(rt: HostRuntime) -> Result<(), Fail> {
+    let alloc = rt.alloc();
+    let resource = Resource::new(alloc);
+    check(resource.digest(alloc)? == NO_BYTES, "the digest")?;
+    check(resource.frontier(alloc)?.len() == 0, "the frontier")?;
+    check(resource.width() == 0, "the width")?;
+    check(resource.entry(0).is_none(), "no update")?;
+    check(resource.holds(&names_of(alloc, "")?), "nothing is held")
+}
+
+/// The arrival number of an identifier.
+fn number_of(alloc: Global, resource: &Resource, name: &str) -> Result<Option<u32>, Fail> {
+    Ok(resource.find(&Id::read(alloc, name.as_bytes())?))
+}
+
+#[test]
+fn updates_are_found_by_number_and_by_name(rt: HostRuntime) -> Result<(), Fail> {
+    let alloc = rt.alloc();
+    let rows = [
+        new_offer("b-1", "", Edit::Body("B")),
+        new_offer("a-1", "", Edit::Body("A")),
+    ];
+    let resource = given(alloc, &rows)?;
+    let Some(second) = resource.entry(1) else {
+        return Err("no second update".into());
+    };
+    check(
+        second.id().bytes() == b"a-1".as_slice(),
+        "the second update",
+    )?;
+    check(resource.entry(2).is_none(), "no third update")?;
+    check(number_of(alloc, &resource, "b-1")? == Some(0), "the first")?;
+    check(number_of(alloc, &resource, "c-1")? == None, "no such name")?;
+    check(resource.width() == 2, "the width")?;
+    let frontier = resource.frontier(alloc)?;
+    check(has_members(&frontier, &["a-1", "b-1"]), "the frontier")?;
+    check(resource.holds(&frontier), "held")?;
+    let other = names_of(alloc, "a-1 c-1")?;
+    check(!resource.holds(&other), "not held")
+}
+
+/// Whether an answer names this identifier as the least that is not held.
+fn names_unheld(unknown: Option<Unknown>, name: &str) -> bool {
+    match unknown {
+        Some(Unknown::Id { id }) => id.bytes() == name.as_bytes(),
+        _ => false,
+    }
+}
+
+#[test]
+fn the_ancestry_is_marked_by_arrival(rt: HostRuntime) -> Result<(), Fail> {
+    let alloc = rt.alloc();
+    let resource = merged(alloc)?;
+    let Ok(marks) = resource.ancestry(alloc, &names_of(alloc, "b-1")?) else {
+        return Err("no ancestry".into());
+    };
+    check(!marks.has(0) && marks.has(1) && !marks.has(2), "of a root")?;
+    let Ok(marks) = resource.ancestry(alloc, &names_of(alloc, "m-1")?) else {
+        return Err("no ancestry".into());
+    };
+    check(marks.has(0) && marks.has(1) && marks.has(2), "of the merge")
+}
+
+#[test]
+fn the_least_member_that_is_not_held_is_named(rt: HostRuntime) -> Result<(), Fail> {
+    let alloc = rt.alloc();
+    let resource = merged(alloc)?;
+    let at = names_of(alloc, "z-1 m-1 c-1 n-1")?;
+    let text = resource.read(alloc, &at);
+    check(names_unheld(text.err(), "c-1"), "of a text")?;
+    let marks = resource.ancestry(alloc, &at);
+    check(names_unheld(marks.err(), "c-1"), "of an ancestry")
 }

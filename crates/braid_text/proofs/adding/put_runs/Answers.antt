@@ -1,8 +1,8 @@
-use Rattle.std.proofs.Common.{◌≡◌, ◌+◌, ◌-◌, ◌∙◌, ℕ, List, ◌∷◌, take, drop, length, arith, subst, sym, ap}
+use Rattle.std.proofs.Common.{◌≡◌, ◌+◌, ◌-◌, ◌∙◌, ℕ, List, [], ◌∷◌, take, drop, length, arith, subst, sym, ap}
 use Rattle.braid_tree.specs.Rows.{Stamp, ListsWithRun, AreNewOrdinals, KeepsPlaces, PutsRun}
 use Rattle.braid_tree.proofs.Places.{keeps_put, next_put}
 use Rattle.braid_text.specs.Puts.{AreOver, ListsWithRuns, text_len, total_len}
-use Rattle.braid_text.proofs.Putting.{runs_more, over_more, runs_left, total_more}
+use Rattle.braid_text.proofs.Putting.{runs_more, empty_text, empty_run, over_more, runs_left, total_more}
 use Rattle.braid_text.proofs.adding.put_runs.Goals as goal
 
 pub loop-run-preserved : goal.loop-run-preserved
@@ -18,14 +18,14 @@ loop-run-preserved g c =
     let next : drop i runs ≡ r ∷ rest = runs_left runs i r c.loop-run-test.true c.run-item.is in
     let more = total_more runs i r c.loop-run-test.true c.run-item.is in
     let over : AreOver before (total_len (take i runs)) (r ∷ rest) = subst (AreOver before (total_len (take i runs))) next inv.over in
-    let long : length c.chars.result.now ≡ text_len r = ap length c.chars.ensures.value in
+    let long : length c.chars-text.result.now ≡ text_len r = ap length c.chars-text.ensures.value in
     let put : PutsRun before after (length vs - 1) r.after r.ordinal r.text =
-    subst (λ (t : List ℕ). PutsRun before after (length vs - 1) r.after r.ordinal t) c.chars.ensures.value
-    (subst (λ (s : List Stamp). PutsRun before after (length s - 1) r.after r.ordinal c.chars.result.now) inv.same c.insert_run.ensures.put) in
+    subst (λ (t : List ℕ). PutsRun before after (length vs - 1) r.after r.ordinal t) c.chars-text.ensures.value
+    (subst (λ (s : List Stamp). PutsRun before after (length s - 1) r.after r.ordinal c.chars-text.result.now) inv.same c.insert_run.ensures.put) in
     let kept : KeepsPlaces before after = keeps_put before after (length vs - 1) r.after r.ordinal r.text put in
     let placed : ListsWithRun vs before after r.after r.ordinal r.text =
-    subst (λ (t : List ℕ). ListsWithRun vs before after r.after r.ordinal t) c.chars.ensures.value
-    (subst (λ (s : List Stamp). ListsWithRun s before after r.after r.ordinal c.chars.result.now) inv.same c.insert_run.ensures.placed) in
+    subst (λ (t : List ℕ). ListsWithRun vs before after r.after r.ordinal t) c.chars-text.ensures.value
+    (subst (λ (s : List Stamp). ListsWithRun s before after r.after r.ordinal c.chars-text.result.now) inv.same c.insert_run.ensures.placed) in
     record {
       same = c.insert_run.ensures.stamps ∙ inv.same;
       removed = c.insert_run.ensures.deletions ∙ inv.removed;
@@ -39,4 +39,32 @@ loop-run-preserved g c =
         deletions_left = omega (arith, inv.room.deletions_left, c.insert_run.ensures.room.deletions_left);
       };
       left = λ new lists. inv.left new (subst (ListsWithRuns vs before new) (sym next) (runs_more vs before after new r rest placed lists));
+    }
+
+pub loop-run-preserved-then-is_empty : goal.loop-run-preserved-then-is_empty
+loop-run-preserved-then-is_empty g c =
+    let inv = c.loop-run.invariant in
+    let i = c.loop-run.run-index in
+    let runs = c.args.runs.now in
+    let r = c.run-item.result in
+    let rest = drop (i + 1) runs in
+    let vs = g.D.Document.stamps c.args.doc.now in
+    let before = g.D.Document.rows c.loop-run.doc in
+    let next : drop i runs ≡ r ∷ rest = runs_left runs i r c.loop-run-test.true c.run-item.is in
+    let more = total_more runs i r c.loop-run-test.true c.run-item.is in
+    let over : AreOver before (total_len (take i runs)) (r ∷ rest) = subst (AreOver before (total_len (take i runs))) next inv.over in
+    let empty : r.text ≡ [] = sym c.chars-text.ensures.value ∙ empty_text c.chars-text.result.now (sym c.is_empty.ensures ∙ c.if-is_empty.true) in
+    record {
+      same = inv.same;
+      removed = inv.removed;
+      known = inv.known;
+      over = subst (λ (n : ℕ). AreOver before n rest) (sym more) over.2;
+      next = λ m l. inv.next m (omega (arith, l, more));
+      places = inv.places;
+      room = record {
+        versions_left = inv.room.versions_left;
+        elements_left = omega (arith, inv.room.elements_left, more);
+        deletions_left = inv.room.deletions_left;
+      };
+      left = λ new lists. inv.left new (subst (ListsWithRuns vs before new) (sym next) (runs_more vs before before new r rest (empty_run vs before r empty) lists));
     }

@@ -4,7 +4,7 @@ use Rattle.braid_graph.specs.Ancestries.{IsLeastUnheld}
 use Rattle.braid_graph.specs.Frontiers.{frontier_of}
 use Rattle.braid_rebase.specs.Resolved.{IsRebaseFault}
 use Rattle.braid_text.specs.Puts.{total_len}
-use Rattle.braid_text.proofs.Taking.{held_item, held_same, held_fits, not_contained, unknown_fits, past_fits, held_there, may, seen_there, need_is, over_fits, takable}
+use Rattle.braid_text.proofs.Taking.{held_item, held_same, held_fits, not_contained, unknown_fits, past_fits, held_there, may, seen_there, need_is, over_fits, roomy, takable}
 use Rattle.braid_text.proofs.Grown.{few_elements}
 use Rattle.braid_text.proofs.history.History.judge.Goals as goal
 
@@ -29,8 +29,8 @@ returns-in-Err-OutOfRange-clause-known g c = λ there. absurd (not_contained c.a
 pub returns-in-Err-Memory-clause-known : goal.returns-in-Err-Memory-clause-known
 returns-in-Err-Memory-clause-known g c = λ there. absurd (not_contained c.args.self.now.updates.items c.args.self.now.graph c.args.update.now c.requires.stands.graph (subst (λ (i : List ℕ). Holds c.args.self.now.graph i → ⊥) c.id.ensures.value c.in_default.ensures.none) there)
 
-pub returns-in-Some-over-clause-known : goal.returns-in-Some-over-clause-known
-returns-in-Some-over-clause-known g c = λ there. absurd (not_contained c.args.self.now.updates.items c.args.self.now.graph c.args.update.now c.requires.stands.graph (subst (λ (i : List ℕ). Holds c.args.self.now.graph i → ⊥) c.id.ensures.value c.in_default.ensures.none) there)
+pub returns-in-Some-first_full-clause-known : goal.returns-in-Some-first_full-clause-known
+returns-in-Some-first_full-clause-known g c = λ there. absurd (not_contained c.args.self.now.updates.items c.args.self.now.graph c.args.update.now c.requires.stands.graph (subst (λ (i : List ℕ). Holds c.args.self.now.graph i → ⊥) c.id.ensures.value c.in_default.ensures.none) there)
 
 pub returns-in-None-clause-known : goal.returns-in-None-clause-known
 returns-in-None-clause-known g c = λ there. absurd (not_contained c.args.self.now.updates.items c.args.self.now.graph c.args.update.now c.requires.stands.graph (subst (λ (i : List ℕ). Holds c.args.self.now.graph i → ⊥) c.id.ensures.value c.in_default.ensures.none) there)
@@ -77,8 +77,8 @@ width_after-requires g c =
     let held = subst (HoldsAll es) c.parents.ensures.value c.in_default-least_unheld.ensures.none in
     record { held = subst (HoldsAll es) (sym c.parents-2.ensures.value) held }
 
-pub returns-in-Some-over-clause-refusal : goal.returns-in-Some-over-clause-refusal
-returns-in-Some-over-clause-refusal g c =
+pub returns-in-Some-first_full-clause-refusal : goal.returns-in-Some-first_full-clause-refusal
+returns-in-Some-first_full-clause-refusal g c =
     let H = c.args.self.now.updates.items in
     let es = c.args.self.now.graph in
     let vs = g.D.Document.stamps c.args.self.now.document in
@@ -91,7 +91,7 @@ returns-in-Some-over-clause-refusal g c =
     let need = need_is H es vs rows ds stands u new held c.read_parts.ensures.named c.read_parts.ensures.rising c.read_parts.ensures.built c.in-Ok.resolved c.in-Ok.ensures.ok _ refl
     (c.text_len.ensures.len ∙ ap total_len c.deref.ensures.value) (omega (arith, c.len.ensures, c.in-Ok.resolved.deletes.ok.0))
     (c.width_after.ensures.width u.id new ∙ ap (λ (ps : List (List ℕ)). length (frontier_of (es ++ record { id = u.id; parents = ps } ∷ []))) c.parents-2.ensures.value) in
-    over_fits H es vs rows ds stands u new held c.read_parts.ensures.named c.read_parts.ensures.rising c.read_parts.ensures.built c.in-Ok.resolved c.in-Ok.ensures.ok _ c.args.room.now c.in-Some-over.full need (sym c.in-Some-over.is ∙ c.over.ensures.over)
+    over_fits H es vs rows ds stands u new held c.read_parts.ensures.named c.read_parts.ensures.rising c.read_parts.ensures.built c.in-Ok.resolved c.in-Ok.ensures.ok _ c.args.room.now c.in-Some-first_full.full need (sym c.in-Some-first_full.is ∙ c.first_full.ensures.full)
 
 pub returns-in-None-clause-ok : goal.returns-in-None-clause-ok
 returns-in-None-clause-ok g c =
@@ -104,10 +104,23 @@ returns-in-None-clause-ok g c =
     let stands = c.requires.stands in
     let new = subst (λ (i : List ℕ). Holds es i → ⊥) c.id.ensures.value c.in_default.ensures.none in
     let held = subst (HoldsAll es) c.parents.ensures.value c.in_default-least_unheld.ensures.none in
+    takable H es vs rows ds stands u new held c.read_parts.ensures.named c.read_parts.ensures.rising c.read_parts.ensures.built c.in-Ok.resolved c.in-Ok.ensures.ok c.in-Ok.ensures.level
+
+pub returns-in-None-clause-room : goal.returns-in-None-clause-room
+returns-in-None-clause-room g c =
+    let H = c.args.self.now.updates.items in
+    let es = c.args.self.now.graph in
+    let vs = g.D.Document.stamps c.args.self.now.document in
+    let rows = g.D.Document.rows c.args.self.now.document in
+    let ds = g.D.Document.removed c.args.self.now.document in
+    let u = c.args.update.now in
+    let stands = c.requires.stands in
+    let new = subst (λ (i : List ℕ). Holds es i → ⊥) c.id.ensures.value c.in_default.ensures.none in
+    let held = subst (HoldsAll es) c.parents.ensures.value c.in_default-least_unheld.ensures.none in
     let need = need_is H es vs rows ds stands u new held c.read_parts.ensures.named c.read_parts.ensures.rising c.read_parts.ensures.built c.in-Ok.resolved c.in-Ok.ensures.ok _ refl
     (c.text_len.ensures.len ∙ ap total_len c.deref.ensures.value) (omega (arith, c.len.ensures, c.in-Ok.resolved.deletes.ok.0))
     (c.width_after.ensures.width u.id new ∙ ap (λ (ps : List (List ℕ)). length (frontier_of (es ++ record { id = u.id; parents = ps } ∷ []))) c.parents-2.ensures.value) in
-    takable H es vs rows ds stands u new held c.read_parts.ensures.named c.read_parts.ensures.rising c.read_parts.ensures.built c.in-Ok.resolved c.in-Ok.ensures.ok _ c.args.room.now need (sym c.in-None.is ∙ c.over.ensures.over) c.in-Ok.ensures.level
+    roomy H es vs rows ds stands u new held c.read_parts.ensures.named c.read_parts.ensures.rising c.read_parts.ensures.built c.in-Ok.resolved c.in-Ok.ensures.ok _ c.args.room.now need (sym c.in-None.is ∙ c.first_full.ensures.full)
 
 pub returns-in-Some-least_unheld-clause-refusal : goal.returns-in-Some-least_unheld-clause-refusal
 returns-in-Some-least_unheld-clause-refusal g c =
