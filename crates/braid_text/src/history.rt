@@ -50,7 +50,7 @@ impl<D: Document> History<D> {
             }
             Err(RebaseFault::Memory) => return Err(Accept::Memory),
         };
-        // It does nothing when it runs: the proof learns from it that the update is built.
+        // It does nothing when it runs: it gives the proof what every update keeps.
         read_parts(update);
         let need = Room {
             versions: 1,

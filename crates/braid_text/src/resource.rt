@@ -60,8 +60,8 @@ impl Resource {
     /// beside what is held; its `width` is for the whole frontier afterwards. The caller sees to it that what is held
     /// and `room` come to at most 524,288 versions, 33,554,432 elements and 67,108,864 deletions.
     ///
-    /// It costs a pass over the elements up to the end of the last patch, and for a body two over all of them; each run
-    /// with text and each deletion looks its element up from the end of the elements, and a run moves what follows it.
+    /// It costs the ancestry of the parents and a pass over the elements up to the end of the last patch, for a body two
+    /// over all of them; each run with text and each deletion looks its element up from the end of the elements.
     ///
     /// An answer other than New leaves the resource as it was, and the update is dropped. Known takes no memory.
     pub fn accept(&mut self, alloc: Global, update: Update, room: &Room) -> Accept

@@ -324,24 +324,47 @@ fn merged(alloc: Global) -> Result<Resource, Fail> {
 
 #[test]
 fn a_merge_without_patches_leaves_the_text(rt: HostRuntime) -> Result<(), Fail> {
-    let alloc = rt.alloc();
-    let resource = merged(alloc)?;
-    check(reads(alloc, &resource, "BA")?, "the text")?;
-    check(reads_at(alloc, &resource, "a-1 b-1", "BA")?, "the parents")?;
-    let frontier = resource.frontier(alloc)?;
-    check(has_members(&frontier, &["m-1"]), "the frontier")?;
-    check(resource.width() == 1, "the width")
+    let resource = merged(rt.alloc())?;
+    let texts = reads(rt.alloc(), &resource, "BA")?
+        && reads_at(rt.alloc(), &resource, "a-1 b-1", "BA")?;
+    check(texts, "the text")?;
+    let frontier = resource.frontier(rt.alloc())?;
+    check(
+        has_members(&frontier, &["m-1"]) && resource.width() == 1,
+        "the frontier",
+    )
 }
 
 #[test]
 fn a_resource_begins_without_updates(rt: HostRuntime) -> Result<(), Fail> {
-    let alloc = rt.alloc();
-    let resource = Resource::new(alloc);
-    check(resource.digest(alloc)? == NO_BYTES, "the digest")?;
-    check(resource.frontier(alloc)?.len() == 0, "the frontier")?;
-    check(resource.width() == 0, "the width")?;
-    check(resource.entry(0).is_none(), "no update")?;
-    check(resource.holds(&names_of(alloc, "")?), "nothing is held")
+    let resource = Resource::new(rt.alloc());
+    check(resource.digest(rt.alloc())? == NO_BYTES, "the digest")?;
+    let frontier = resource.frontier(rt.alloc())?;
+    check(
+        frontier.len() == 0 && resource.width() == 0 && resource.entry(0).is_none(),
+        "no updates",
+    )
+}
+
+/// Two roots, the one with the greater name first.
+fn two_roots(alloc: Global) -> Result<Resource, Fail> {
+    let rows = [
+        new_offer("b-1", "", Edit::Body("B")),
+        new_offer("a-1", "", Edit::Body("A")),
+    ];
+    given(alloc, &rows)
+}
+
+#[test]
+fn updates_are_found_by_number(rt: HostRuntime) -> Result<(), Fail> {
+    let resource = two_roots(rt.alloc())?;
+    let Some(second) = resource.entry(1) else {
+        return Err("no second update".into());
+    };
+    check(
+        second.id().bytes() == b"a-1".as_slice() && resource.entry(2).is_none(),
+        "the second is the last",
+    )
 }
 
 /// The arrival number of an identifier.
@@ -350,29 +373,29 @@ fn number_of(alloc: Global, resource: &Resource, name: &str) -> Result<Option<u3
 }
 
 #[test]
-fn updates_are_found_by_number_and_by_name(rt: HostRuntime) -> Result<(), Fail> {
-    let alloc = rt.alloc();
-    let rows = [
-        new_offer("b-1", "", Edit::Body("B")),
-        new_offer("a-1", "", Edit::Body("A")),
-    ];
-    let resource = given(alloc, &rows)?;
-    let Some(second) = resource.entry(1) else {
-        return Err("no second update".into());
-    };
+fn updates_are_found_by_name(rt: HostRuntime) -> Result<(), Fail> {
+    let resource = two_roots(rt.alloc())?;
+    let first = number_of(rt.alloc(), &resource, "b-1")?;
+    let none = number_of(rt.alloc(), &resource, "c-1")?;
+    check(first == Some(0) && none == None, "the numbers")
+}
+
+/// Whether all these names are held.
+fn holds_names(alloc: Global, resource: &Resource, names: &str) -> Result<bool, Fail> {
+    Ok(resource.holds(&names_of(alloc, names)?))
+}
+
+#[test]
+fn each_root_is_held_and_in_the_frontier(rt: HostRuntime) -> Result<(), Fail> {
+    let resource = two_roots(rt.alloc())?;
+    let held = holds_names(rt.alloc(), &resource, "a-1 b-1")?;
+    let unheld = !holds_names(rt.alloc(), &resource, "a-1 c-1")?;
+    check(held && unheld, "what is held")?;
+    let frontier = resource.frontier(rt.alloc())?;
     check(
-        second.id().bytes() == b"a-1".as_slice(),
-        "the second update",
-    )?;
-    check(resource.entry(2).is_none(), "no third update")?;
-    check(number_of(alloc, &resource, "b-1")? == Some(0), "the first")?;
-    check(number_of(alloc, &resource, "c-1")? == None, "no such name")?;
-    check(resource.width() == 2, "the width")?;
-    let frontier = resource.frontier(alloc)?;
-    check(has_members(&frontier, &["a-1", "b-1"]), "the frontier")?;
-    check(resource.holds(&frontier), "held")?;
-    let other = names_of(alloc, "a-1 c-1")?;
-    check(!resource.holds(&other), "not held")
+        has_members(&frontier, &["a-1", "b-1"]) && resource.width() == 2,
+        "the frontier",
+    )
 }
 
 /// Whether an answer names this identifier as the least that is not held.
@@ -383,27 +406,35 @@ fn names_unheld(unknown: Option<Unknown>, name: &str) -> bool {
     }
 }
 
+/// Whether the ancestry of one version is these of the first three updates.
+fn has_ancestry(
+    alloc: Global,
+    resource: &Resource,
+    name: &str,
+    want: [bool; 3],
+) -> Result<bool, Fail> {
+    let Ok(marks) = resource.ancestry(alloc, &names_of(alloc, name)?) else {
+        return Ok(false);
+    };
+    Ok([marks.has(0), marks.has(1), marks.has(2)] == want)
+}
+
 #[test]
 fn the_ancestry_is_marked_by_arrival(rt: HostRuntime) -> Result<(), Fail> {
-    let alloc = rt.alloc();
-    let resource = merged(alloc)?;
-    let Ok(marks) = resource.ancestry(alloc, &names_of(alloc, "b-1")?) else {
-        return Err("no ancestry".into());
-    };
-    check(!marks.has(0) && marks.has(1) && !marks.has(2), "of a root")?;
-    let Ok(marks) = resource.ancestry(alloc, &names_of(alloc, "m-1")?) else {
-        return Err("no ancestry".into());
-    };
-    check(marks.has(0) && marks.has(1) && marks.has(2), "of the merge")
+    let resource = merged(rt.alloc())?;
+    let root = has_ancestry(rt.alloc(), &resource, "b-1", [false, true, false])?;
+    let merge = has_ancestry(rt.alloc(), &resource, "m-1", [true, true, true])?;
+    check(root && merge, "the ancestries")
 }
 
 #[test]
 fn the_least_member_that_is_not_held_is_named(rt: HostRuntime) -> Result<(), Fail> {
-    let alloc = rt.alloc();
-    let resource = merged(alloc)?;
-    let at = names_of(alloc, "z-1 m-1 c-1 n-1")?;
-    let text = resource.read(alloc, &at);
-    check(names_unheld(text.err(), "c-1"), "of a text")?;
-    let marks = resource.ancestry(alloc, &at);
-    check(names_unheld(marks.err(), "c-1"), "of an ancestry")
+    let resource = merged(rt.alloc())?;
+    let at = names_of(rt.alloc(), "z-1 m-1 c-1 n-1")?;
+    let text = resource.read(rt.alloc(), &at).err();
+    let marks = resource.ancestry(rt.alloc(), &at).err();
+    check(
+        names_unheld(text, "c-1") && names_unheld(marks, "c-1"),
+        "the least",
+    )
 }
