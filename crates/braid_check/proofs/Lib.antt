@@ -1,8 +1,10 @@
-pub mod Encoded
-pub mod Growing
-pub mod Stopped
+pub mod Once
+pub mod OneByOne
+pub mod Legal
+pub mod Order
 pub mod OneWord
-pub mod InWords
 pub mod OneText
 pub mod Completeness
 pub mod Decided
+pub mod Stopped
+pub mod Lines

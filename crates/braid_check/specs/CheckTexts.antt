@@ -1,18 +1,25 @@
 -- What `check` prints, by the bytes read and by how reading ended.
-use Rattle.std.specs.Prelude.{◌≡◌, ℕ, List, ◌++◌, Option, Some, None, length, codes, decimal}
+use Rattle.std.specs.Prelude.{◌≡◌, ℕ, List, [], ◌∷◌, ◌++◌, length, codes, decimal, encode_utf8_all}
+use Rattle.hex.specs.Hex.{encode_lower}
+use Rattle.braid_ids.specs.Identifiers.{spelled_id, spelled_ids}
 use Rattle.braid_io.specs.declared.status.Status.{Status}
 use Rattle.braid_io.specs.declared.status.Status.TheVariants.{Done, Bad, Outside, Cut}
-use Rattle.braid_change.specs.Changes.{content}
 use Rattle.braid_change.specs.Updates.{UpdateView}
 use Rattle.braid_fields.specs.declared.reason.Reason.{Reason}
 use Rattle.braid_fields.specs.declared.reason.Reason.TheVariants as reasons
-use Rattle.braid_grammar.specs.Streams.{IsStream, IsTorn}
+use Rattle.braid_grammar.specs.Streams.{IsStream, IsTorn, HaveUpdates, BeginsWith}
 use Rattle.braid_frame.specs.declared.fed.FrameFault.{FrameFault}
 use Rattle.braid_frame.specs.Goings.{HasFault}
-use Rattle.braid_stream.specs.Readers.{HaveUpdates, BeginsWith}
+use Rattle.braid_graph.specs.Frontiers.{frontier_of}
+use Rattle.braid_text.specs.Histories.{graph_of, text_of}
+use Rattle.braid_text.specs.Digested.{digest_at}
+use Rattle.braid_text.specs.declared.accept.Accept.{Accept}
+use Rattle.braid_text.specs.declared.accept.Accept.TheVariants.{New, Known, Clash, UnknownParent, OutOfRange, Full, Memory}
+use Rattle.braid_text.specs.declared.room.Which.{Which}
+use Rattle.braid_text.specs.declared.room.Which.TheVariants.{Resources, Versions, Elements, Deletions, Width}
 use Rattle.braid_check.specs.declared.stop.Stop.{Stop}
 use Rattle.braid_check.specs.declared.stop.Stop.TheVariants as stops
-use Rattle.braid_check.specs.Chains.{IsNext, IsChain, last_of}
+use Rattle.braid_check.specs.Accepted.{AreAccepted, IsRefused, history_of, limit_of, replica_answer}
 
 -- the name of a reason
 abbrev pub reason_text : Reason → List ℕ
@@ -47,9 +54,23 @@ fault_text f = codes "fault: " ++ reason_text f.reason ++ codes " at " ++ decima
 abbrev pub torn_text : ℕ → List ℕ
 torn_text at = codes "fault: Torn at " ++ decimal at ++ codes "\n"
 
--- the line for an update that is not the next one of a chain
-abbrev pub not_yet_text : List ℕ
-not_yet_text = codes "fault: NotYet\n"
+-- the name of a count
+abbrev pub count_text : Which → List ℕ
+count_text Resources = codes "resources"
+count_text Versions = codes "versions"
+count_text Elements = codes "elements"
+count_text Deletions = codes "deletions"
+count_text Width = codes "width"
+
+-- the line for an answer that refuses an update; the other answers have none
+abbrev pub refusal_text : Accept → List ℕ
+refusal_text New = []
+refusal_text Known = []
+refusal_text (Clash id) = codes "fault: Clash " ++ spelled_id id ++ codes "\n"
+refusal_text (UnknownParent id) = codes "fault: UnknownParent " ++ spelled_id id ++ codes "\n"
+refusal_text (OutOfRange patch len) = codes "fault: OutOfRange patch " ++ decimal patch ++ codes " len " ++ decimal len ++ codes "\n"
+refusal_text (Full which need room) = codes "fault: Full " ++ count_text which ++ codes " " ++ decimal (limit_of which) ++ codes "\n"
+refusal_text Memory = []
 
 -- the line for a read that failed
 abbrev pub read_fault_text : List ℕ
@@ -59,14 +80,20 @@ read_fault_text = codes "fault: ReadFault\n"
 abbrev pub spent_text : List ℕ
 spent_text = codes "fault: Spent\n"
 
--- the content of an update, where there is one
-abbrev pub last_content : Option UpdateView → List ℕ
-last_content None = codes ""
-last_content (Some u) = content u.change
+-- what follows `frontier:`: nothing where there are no identifiers, else a space and their list
+abbrev pub frontier_text : List (List ℕ) → List ℕ
+frontier_text [] = []
+frontier_text (id ∷ ids) = codes " " ++ spelled_ids (id ∷ ids)
 
--- the lines for a chain: the number of its updates, and the body of the last one
-abbrev pub chain_text : List UpdateView → List ℕ
-chain_text us = codes "versions: " ++ decimal (length us) ++ codes "\ntext:\n" ++ last_content (last_of us) ++ codes "\n"
+-- the lines for a history: the number of its versions, its frontier, the number of characters of its text, its digest in
+-- hexadecimal digits, and the text
+abbrev pub history_text : List UpdateView → List ℕ
+history_text H =
+    codes "versions: " ++ decimal (length H)
+    ++ codes "\nfrontier:" ++ frontier_text (frontier_of (graph_of H))
+    ++ codes "\nlength: " ++ decimal (length (text_of H))
+    ++ codes "\ndigest: " ++ encode_lower (digest_at H)
+    ++ codes "\ntext:\n" ++ encode_utf8_all (text_of H) ++ codes "\n"
 
 -- how reading ended: with what the bytes show, at the source's end, at a read that failed, or at the limit
 pub data Ending : Type 0 where
@@ -75,20 +102,20 @@ pub data Ending : Type 0 where
   failed : Ending
   spent : Ending
 
--- the bytes show a fault of the stream behind a chain, or an update behind a chain that is not the next one
+-- the bytes show a fault of the stream, or an update that is refused; the updates before it are accepted
 pub data IsFound (bytes text : List ℕ) : Type 0 where
-  fault : (us : List UpdateView) (f : FrameFault) → IsChain us → HasFault us bytes f → text ≡ fault_text f → IsFound bytes text
-  refusal : (us : List UpdateView) (u : UpdateView) → IsChain us → BeginsWith us u bytes → ¬ IsNext us u → text ≡ not_yet_text → IsFound bytes text
+  fault : (us : List UpdateView) (f : FrameFault) → AreAccepted us → HasFault us bytes f → text ≡ fault_text f → IsFound bytes text
+  refusal : (us : List UpdateView) (u : UpdateView) → IsRefused us u → BeginsWith us u bytes → text ≡ refusal_text (replica_answer (history_of us) u) → IsFound bytes text
 
--- the bytes show nothing of the kind: the updates that they complete are a chain, and they have no fault
+-- the bytes show nothing of the kind: the updates that they complete are accepted, and they have no fault
 pub record ShowNothing (bytes : List ℕ) : Type 0 where
   pub updates : List UpdateView
-  pub chain : IsChain updates
+  pub accepted : AreAccepted updates
   pub have : HaveUpdates updates bytes
 
--- the bytes are a stream of a chain; or they are torn behind a chain: neither a stream nor at fault
+-- the bytes are a stream of accepted updates; or they are torn behind such: neither a stream nor at fault
 pub data EndsSo (bytes : List ℕ) (status : Status) (text : List ℕ) : Type 0 where
-  stream : (us : List UpdateView) → IsChain us → IsStream us bytes → status ≡ Done → text ≡ chain_text us → EndsSo bytes status text
+  stream : (us : List UpdateView) → AreAccepted us → IsStream us bytes → status ≡ Done → text ≡ history_text (history_of us) → EndsSo bytes status text
   torn : ShowNothing bytes → IsTorn bytes → status ≡ Bad → text ≡ torn_text (length bytes) → EndsSo bytes status text
 
 -- the status and the text that follow from the bytes and from how reading ended
@@ -98,20 +125,20 @@ IsCheckText ended bytes status text = EndsSo bytes status text
 IsCheckText failed bytes status text = ShowNothing bytes × (status ≡ Outside) × (text ≡ read_fault_text)
 IsCheckText spent bytes status text = ShowNothing bytes × (status ≡ Cut) × (text ≡ spent_text)
 
--- the text of a run that took a chain and stopped so
-abbrev pub text_of : List UpdateView → Stop → List ℕ
-text_of us stops.End = chain_text us
-text_of us (stops.Torn at) = torn_text at
-text_of us (stops.Fault f) = fault_text f
-text_of us stops.NotYet = not_yet_text
-text_of us stops.ReadFault = read_fault_text
-text_of us stops.Spent = spent_text
+-- the text of a run that took this history and stopped so
+abbrev pub text_at_stop : List UpdateView → Stop → List ℕ
+text_at_stop H stops.End = history_text H
+text_at_stop H (stops.Torn at) = torn_text at
+text_at_stop H (stops.Fault f) = fault_text f
+text_at_stop H (stops.Refused answer) = refusal_text answer
+text_at_stop H stops.ReadFault = read_fault_text
+text_at_stop H stops.Spent = spent_text
 
 -- and its status
 abbrev pub status_of : Stop → Status
 status_of stops.End = Done
 status_of (stops.Torn at) = Bad
 status_of (stops.Fault f) = Bad
-status_of stops.NotYet = Bad
+status_of (stops.Refused answer) = Bad
 status_of stops.ReadFault = Outside
 status_of stops.Spent = Cut

@@ -1,36 +1,38 @@
--- What is kept of a chain while it is read, and why reading stopped.
-use Rattle.std.specs.Prelude.{◌≡◌, ℕ, ◌<◌, ◌≤◌, List, [], ◌∷◌, ◌++◌, Result, Ok, Err, length, map}
+-- What is kept of a stream's updates while it is read, and why reading stopped.
+use Rattle.std.specs.Prelude.{◌≡◌, ℕ, ◌<◌, ◌≤◌, List, length}
 use Rattle.braid_io.specs.Outside.{Intake, Moves}
 use Rattle.braid_change.specs.Updates.{UpdateView}
-use Rattle.braid_grammar.specs.Streams.{IsStream, IsTorn}
+use Rattle.braid_grammar.specs.Streams.{IsStream, IsTorn, HaveUpdates, BeginsWith}
 use Rattle.braid_frame.specs.Goings.{HasFault}
 use Rattle.braid_stream.specs.Pieces.{FailsBehind, EndsBehind}
-use Rattle.braid_stream.specs.Readers.{most_bytes, HaveUpdates, BeginsWith}
-use Rattle.braid_check.specs.declared.chain.Chain.{Chain}
-use Rattle.braid_check.specs.declared.chain.ChainFault.{ChainFault}
-use Rattle.braid_check.specs.declared.chain.ChainFault.TheVariants.{NotNext, Memory}
+use Rattle.braid_stream.specs.Readers.{most_bytes}
+use Rattle.braid_graph.specs.Frontiers.{frontier_of}
+use Rattle.braid_text.specs.Histories.{graph_of, IsLegal, elements_of, deletions_of}
+use Rattle.braid_text.specs.declared.accept.Accept.{Accept}
 use Rattle.braid_check.specs.declared.stop.Stop.{Stop}
 use Rattle.braid_check.specs.declared.stop.Stop.TheVariants as stops
-use Rattle.braid_check.specs.Chains.{IsNext, IsChain, characters, last_of}
+use Rattle.braid_check.specs.Accepted.{AreAccepted, IsRefused, history_of, replica_answer}
 
--- how many updates a chain has
-abbrev pub chain_len : Chain → ℕ
-chain_len chain = length chain.ids.keys
+-- a history is within the limits of a replica
+pub record IsWithin (H : List UpdateView) : Type 0 where
+  pub versions : length H ≤ 524_288
+  pub elements : length (elements_of H) ≤ 33_554_432
+  pub deletions : length (deletions_of H) ≤ 67_108_864
+  pub width : length (frontier_of (graph_of H)) ≤ 2_000
 
--- what is kept of a chain: the identifiers, the last update, and the number of characters
-pub record Keeps (us : List UpdateView) (chain : Chain) : Type 0 where
-  pub is_chain : IsChain us
-  pub ids : chain.ids.keys ≡ map (λ u. u.id) us
-  pub last : chain.last ≡ last_of us
-  pub count : chain.characters ≡ characters us
-  pub few : length us ≤ 524_288
-  pub short : chain.characters ≤ 33_554_432
+-- a resource took these updates of a stream, each of which was accepted
+pub record Keeps (us H : List UpdateView) : Type 0 where
+  pub accepted : AreAccepted us
+  pub history : H ≡ history_of us
+  pub legal : IsLegal H
+  pub within : IsWithin H
 
--- the update joined the chain, whose next one it is; or it is not the next one; or there was no memory
-abbrev pub Joins : List UpdateView → UpdateView → Result (Unit {0}) ChainFault → Chain → Type 0
-Joins us u (Ok done) new = IsNext us u × Keeps (us ++ u ∷ []) new
-Joins us u (Err NotNext) new = (¬ IsNext us u) × Keeps us new
-Joins us u (Err Memory) new = Unit {0}
+-- behind these updates the bytes have one that is refused with this answer
+pub record RefusesOne (us : List UpdateView) (bytes : List ℕ) (answer : Accept) : Type 0 where
+  pub update : UpdateView
+  pub begins : BeginsWith us update bytes
+  pub refused : IsRefused us update
+  pub told : answer ≡ replica_answer (history_of us) update
 
 -- why reading stopped, after these bytes with these updates
 abbrev pub StopsFor : List UpdateView → List ℕ → Intake → Intake → Stop → Type 0
@@ -38,14 +40,14 @@ StopsFor us bytes before after stops.End = EndsBehind bytes before after × IsSt
 StopsFor us bytes before after (stops.Torn at) =
     EndsBehind bytes before after × HaveUpdates us bytes × IsTorn bytes × (at ≡ length bytes) × (length bytes < most_bytes)
 StopsFor us bytes before after (stops.Fault f) = Moves bytes before after × HasFault us bytes f × (length bytes ≤ most_bytes)
-StopsFor us bytes before after stops.NotYet =
-    Moves bytes before after × ((u : UpdateView) × BeginsWith us u bytes × ¬ IsNext us u) × (length bytes ≤ most_bytes)
+StopsFor us bytes before after (stops.Refused answer) =
+    Moves bytes before after × RefusesOne us bytes answer × (length bytes ≤ most_bytes)
 StopsFor us bytes before after stops.ReadFault = FailsBehind bytes before after × HaveUpdates us bytes × (length bytes < most_bytes)
 StopsFor us bytes before after stops.Spent = Moves bytes before after × HaveUpdates us bytes × (length bytes ≡ most_bytes)
 
--- a chain was read from a source, up to where reading stopped
-pub record ReadsChain (chain : Chain) (stop : Stop) (before after : Intake) : Type 0 where
+-- a resource took updates from a source, up to where reading stopped
+pub record ReadsHistory (H : List UpdateView) (stop : Stop) (before after : Intake) : Type 0 where
   pub updates : List UpdateView
   pub bytes : List ℕ
-  pub keeps : Keeps updates chain
+  pub keeps : Keeps updates H
   pub stops : StopsFor updates bytes before after stop

@@ -1,4 +1,4 @@
-pub mod Chains
+pub mod Accepted
 pub mod CheckTexts
 pub mod Runs
 pub mod Kept

@@ -7,8 +7,8 @@ use Rattle.braid_change.specs.Updates.{UpdateView}
 use Rattle.braid_grammar.specs.Streams.{IsStream}
 use Rattle.braid_stream.specs.Pieces.{GivesBytes, FailsBehind, EndsBehind}
 use Rattle.braid_stream.specs.Readers.{most_bytes}
-use Rattle.braid_check.specs.Chains.{IsChain}
-use Rattle.braid_check.specs.CheckTexts.{Ending, found, ended, failed, spent, IsCheckText, chain_text}
+use Rattle.braid_check.specs.Accepted.{AreAccepted, history_of}
+use Rattle.braid_check.specs.CheckTexts.{Ending, found, ended, failed, spent, IsCheckText, history_text}
 
 -- Reading ended so, after these bytes: with what they show; at the source's end, below the limit; at a read that
 -- failed, where the source's count of faults rose; or at the limit.
@@ -62,12 +62,12 @@ pub record Runs (words : List (List ℕ)) (status : Status) (before after : Inta
   pub check : words ≡ check_words → CheckRuns status before after old new
   pub others : words ≢ check_words → Refuses status before after old new
 
--- A stream of a chain is never answered with a fault: where the word is `check`, the source tells that it has such a
--- stream left, below the limit, and neither count of faults rose, the chain's text was written under status Done, or
--- there was no memory.
+-- A stream of accepted updates is never answered with a fault: where the word is `check`, the source tells that it has
+-- such a stream left, below the limit, and neither count of faults rose, the text of their history was written under
+-- status Done, or there was no memory.
 abbrev pub Succeeds : List (List ℕ) → Status → Intake → Intake → Outflow → Outflow → Type 0
 Succeeds words status before after old new =
-    (us : List UpdateView) (bytes : List ℕ) → words ≡ check_words → before.left ≡ Some bytes → IsChain us
+    (us : List UpdateView) (bytes : List ℕ) → words ≡ check_words → before.left ≡ Some bytes → AreAccepted us
     → IsStream us bytes → length bytes < most_bytes
     → ¬ Rose before.faults after.faults → ¬ Rose old.faults new.faults
-    → (status ≡ Memory) ⊎ ((status ≡ Done) × WritesAll (chain_text us) old new)
+    → (status ≡ Memory) ⊎ ((status ≡ Done) × WritesAll (history_text (history_of us)) old new)

@@ -1,25 +1,23 @@
 ghost use Rattle.std.specs.Prelude.{◌≡◌};
 ghost use Rattle.braid_check.specs.Runs.{CheckRuns, Refused, Runs, Succeeds};
 
-use crate::reading::read_chain;
+use crate::reading::read_history;
 use crate::report::report;
 use braid_ids::Word;
 use braid_io::{Sink, Source, Status, write_all};
 use std::alloc::Global;
 
-/// Carries out `check`, where that is the one word: reads an update stream from `source` and writes to `out` how many
-/// versions it has and its last text, or one line that says what is wrong. Other words are written as `fault: Usage`,
-/// and the source is left alone.
+/// Carries out `check`, where that is the one word: takes the updates of a stream from `source` into one resource with the
+/// limits of a replica, and writes to `out` what it holds then, or one line that says what is wrong. Other words are
+/// written as `fault: Usage`, and the source is left alone.
 ///
-/// It reads to the end of the source, to the first fault of the stream, to the first update that is not the next one of
-/// a chain, to a read that fails, or until 1,099,511,627,776 bytes have come: by reads of at most 8,192 bytes. A chain
-/// has at most 524,288 updates, and at most 33,554,432 characters in their bodies together: an update that brings it
-/// above one of these is not the next one.
+/// It reads to the end of the source, to the first fault of the stream, to the first update that is refused, to a read
+/// that fails, or until 1,099,511,627,776 bytes have come: by reads of at most 8,192 bytes. The limits of a replica are
+/// 524,288 versions, 33,554,432 elements, 67,108,864 deletion marks and 2,000 identifiers in the frontier.
 ///
-/// The status: Done where the chain's text was written; Bad for a fault of the stream, for bytes that end within a line,
-/// a head or a content, or before a patch, and for an update that is not the next one; Usage for other words; Cut where
-/// too many bytes came; Outside where a read or a write failed; Memory where there was none, and then nothing was
-/// written.
+/// The status: Done where the lines of a history were written; Bad for a fault of the stream, for bytes that end within a
+/// line, a head or a content, or before a patch, and for an update that is refused; Usage for other words; Cut where too
+/// many bytes came; Outside where a read or a write failed; Memory where there was none, and then nothing was written.
 pub fn check_run<S: Source, O: Sink>(
     alloc: Global,
     words: &[Word],
@@ -52,13 +50,13 @@ fn check_stream<S: Source, O: Sink>(alloc: Global, source: &mut S, out: &mut O) 
     ensures runs { CheckRuns result (S.intake source.old) (S.intake source.new) (O.outflow out.old) (O.outflow out.new) }
     ensures kept { (S.beside_reads source.new ≡ S.beside_reads source.old) × (O.beside_writes out.new ≡ O.beside_writes out.old) }
 {
-    let Ok((chain, stop)) = read_chain(alloc, source) else {
+    let Ok((resource, stop)) = read_history(alloc, source) else {
         return Status::Memory;
     };
-    let Ok(text) = report(alloc, &chain, stop) else {
+    let Ok(text) = report(alloc, &resource, &stop) else {
         return Status::Memory;
     };
-    match write_all(text.as_bytes(), out) {
+    match write_all(text.get(), out) {
         Ok(()) => stop.status(),
         Err(_) => Status::Outside,
     }

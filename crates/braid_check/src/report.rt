@@ -1,74 +1,105 @@
-ghost use Rattle.std.specs.Prelude.{◌≡◌, ◌++◌, List, IfOk, OnOk, string_bytes, encode_utf8_all};
-ghost use Rattle.braid_change.specs.Changes.{content};
-ghost use Rattle.braid_change.specs.Updates.{UpdateView};
-ghost use Rattle.braid_check.specs.CheckTexts.{text_of, chain_text, fault_text, torn_text};
-ghost use Rattle.braid_check.specs.Kept.{Keeps};
+ghost use Rattle.std.specs.Prelude.{◌≡◌, ◌++◌, IfOk, OnOk, string_bytes};
+ghost use Rattle.hex.specs.Hex.{encode_lower};
+ghost use Rattle.braid_graph.specs.Frontiers.{IsFrontierOf};
+ghost use Rattle.braid_text.specs.Histories.{graph_of, text_of};
+ghost use Rattle.braid_text.specs.Digested.{digest_at};
+ghost use Rattle.braid_check.specs.CheckTexts.{text_at_stop, history_text, frontier_text, torn_text, fault_text};
 
-use crate::chain::Chain;
+use crate::number::push_number;
 use crate::reason_name::reason_name;
+use crate::refusal::refusal_report;
 use crate::stop::Stop;
-use braid_change::{Change, Text};
+use braid_change::Text;
 use braid_frame::FrameFault;
-use braid_ids::Memory;
+use braid_ids::{Bytes, Frontier, Memory, Unknown};
+use braid_shelf::write_strings;
+use braid_text::Resource;
 use std::alloc::Global;
 
-/// What is printed for a chain and why its reading stopped.
-pub fn report(alloc: Global, chain: &Chain, stop: Stop) -> Result<String, Memory>
-    ensures { (us : List UpdateView) → Keeps us chain.now → IfOk result (λ text. string_bytes text ≡ text_of us stop) }
+/// What is printed for a resource and why the reading of its stream stopped.
+pub fn report(alloc: Global, resource: &Resource, stop: &Stop) -> Result<Bytes, Memory>
+    ensures ok { IfOk result (λ text. text ≡ text_at_stop resource.now stop.now) }
 {
     match stop {
-        Stop::End => chain_report(alloc, chain),
-        Stop::Torn { at } => Ok(format!(in alloc; "fault: Torn at {at}\n")?),
+        Stop::End => history_report(alloc, resource),
+        Stop::Torn { at } => torn_report(alloc, *at),
         Stop::Fault(fault) => fault_report(alloc, fault),
-        Stop::NotYet => Ok(String::from_str(alloc, "fault: NotYet\n")?),
-        Stop::ReadFault => Ok(String::from_str(alloc, "fault: ReadFault\n")?),
-        Stop::Spent => Ok(String::from_str(alloc, "fault: Spent\n")?),
+        Stop::Refused(answer) => refusal_report(alloc, answer),
+        Stop::ReadFault => Bytes::of(alloc, b"fault: ReadFault\n"),
+        Stop::Spent => Bytes::of(alloc, b"fault: Spent\n"),
     }
+}
+
+/// The line for so many bytes that are all there are, and are neither a stream nor at fault.
+fn torn_report(alloc: Global, at: u64) -> Result<Bytes, Memory>
+    ensures ok { IfOk result (λ text. text ≡ torn_text at) }
+{
+    let mut line = Bytes::of(alloc, b"fault: Torn at ")?;
+    push_number(alloc, &mut line, at)?;
+    line.push(b"\n")?;
+    Ok(line)
 }
 
 /// The line for a fault of the stream.
-fn fault_report(alloc: Global, fault: FrameFault) -> Result<String, Memory>
-    ensures { IfOk result (λ text. string_bytes text ≡ fault_text fault) }
+fn fault_report(alloc: Global, fault: &FrameFault) -> Result<Bytes, Memory>
+    ensures ok { IfOk result (λ text. text ≡ fault_text fault.now) }
 {
-    let name = reason_name(fault.reason);
-    let at = fault.at;
-    Ok(format!(in alloc; "fault: {name} at {at}\n")?)
+    let mut line = Bytes::of(alloc, b"fault: ")?;
+    line.push(reason_name(fault.reason).as_bytes())?;
+    line.push(b" at ")?;
+    push_number(alloc, &mut line, fault.at)?;
+    line.push(b"\n")?;
+    Ok(line)
 }
 
-/// The lines for a chain: the number of its updates, and the body of the last one.
-fn chain_report(alloc: Global, chain: &Chain) -> Result<String, Memory>
-    ensures { (us : List UpdateView) → Keeps us chain.now → IfOk result (λ text. string_bytes text ≡ chain_text us) }
+/// The lines for a resource: how many versions it has, its frontier, the length of its text, its digest and its text.
+fn history_report(alloc: Global, resource: &Resource) -> Result<Bytes, Memory>
+    ensures ok { IfOk result (λ text. text ≡ history_text resource.now) }
 {
-    let count = chain.len();
-    let mut out = format!(in alloc; "versions: {count}\ntext:\n")?;
-    if let Some(update) = chain.last() {
-        push_content(&mut out, update.change())?;
-    }
-    out.push_str("\n")?;
+    let frontier = resource.frontier(alloc)?;
+    let text = read_text(alloc, resource, &frontier)?;
+    let digest = digest_text(alloc, resource)?;
+    let mut out = Bytes::of(alloc, b"versions: ")?;
+    push_number(alloc, &mut out, resource.entries() as u64)?;
+    out.push(b"\nfrontier:")?;
+    push_frontier(alloc, &mut out, &frontier)?;
+    out.push(b"\nlength: ")?;
+    push_number(alloc, &mut out, text.chars().len() as u64)?;
+    out.push(b"\ndigest: ")?;
+    out.push(digest.as_bytes())?;
+    out.push(b"\ntext:\n")?;
+    text.push_to(&mut out)?;
+    out.push(b"\n")?;
     Ok(out)
 }
 
-/// Puts the texts of a change at the end.
-fn push_content(out: &mut String, change: &Change) -> Result<(), Memory>
-    ensures { OnOk result (string_bytes out.new ≡ string_bytes out.old ++ content change.now) }
+/// Puts a space and the list of a frontier at the end, or nothing where it is empty.
+fn push_frontier(alloc: Global, out: &mut Bytes, frontier: &Frontier) -> Result<(), Memory>
+    ensures ok { OnOk result (out.new ≡ out.old ++ frontier_text frontier.now) }
 {
-    match change {
-        Change::Body(text) => push_text(out, text)?,
-        Change::Patches(patches) => {
-            for patch in patches.get() {
-                push_text(out, &patch.text)?;
-            }
-        }
+    if frontier.len() == 0 {
+        return Ok(());
     }
-    Ok(())
+    out.push(b" ")?;
+    out.push(write_strings(alloc, frontier)?.get())
 }
 
-/// Puts the characters of a text at the end.
-fn push_text(out: &mut String, text: &Text) -> Result<(), Memory>
-    ensures { OnOk result (string_bytes out.new ≡ string_bytes out.old ++ encode_utf8_all text.now) }
+/// The digest of a resource in hexadecimal digits.
+fn digest_text(alloc: Global, resource: &Resource) -> Result<String, Memory>
+    ensures ok { IfOk result (λ text. string_bytes text ≡ encode_lower (digest_at resource.now)) }
 {
-    for c in text.chars() {
-        out.push(*c)?;
+    let digest = resource.digest(alloc)?;
+    Ok(hex::encode(alloc, digest)?)
+}
+
+/// What is read at the frontier of a resource.
+fn read_text(alloc: Global, resource: &Resource, frontier: &Frontier) -> Result<Text, Memory>
+    requires frontier { IsFrontierOf (graph_of resource.now) frontier.now }
+    ensures ok { IfOk result (λ text. text ≡ text_of resource.now) }
+{
+    match resource.read(alloc, frontier) {
+        Ok(text) => Ok(text),
+        Err(Unknown::Memory) => Err(Memory),
+        Err(Unknown::Id { .. }) => unreachable!(),
     }
-    Ok(())
 }

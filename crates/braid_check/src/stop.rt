@@ -3,9 +3,10 @@ ghost use Rattle.braid_check.specs.CheckTexts.{status_of};
 
 use braid_frame::FrameFault;
 use braid_io::Status;
+use braid_text::Accept;
 
 /// Why the reading of a stream stopped.
-#[derive(Clone, Copy, Debug, PartialEq, Eq)]
+#[derive(Debug, Drop)]
 pub enum Stop {
     /// The source ended, and its bytes are a stream.
     End,
@@ -13,8 +14,8 @@ pub enum Stop {
     Torn { at: u64 },
     /// The stream has this fault.
     Fault(FrameFault),
-    /// An update came that is not the next one of a chain.
-    NotYet,
+    /// An update was refused with this answer.
+    Refused(Accept),
     /// A read failed.
     ReadFault,
     /// The most bytes were read, and no end had come.
@@ -23,12 +24,12 @@ pub enum Stop {
 
 impl Stop {
     /// How a run ends that stopped so and wrote its text.
-    pub fn status(self) -> Status
-        ensures value { result ≡ status_of self }
+    pub fn status(&self) -> Status
+        ensures value { result ≡ status_of self.now }
     {
         match self {
             Stop::End => Status::Done,
-            Stop::Torn { .. } | Stop::Fault(_) | Stop::NotYet => Status::Bad,
+            Stop::Torn { .. } | Stop::Fault(_) | Stop::Refused(_) => Status::Bad,
             Stop::ReadFault => Status::Outside,
             Stop::Spent => Status::Cut,
         }

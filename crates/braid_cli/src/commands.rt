@@ -8,8 +8,8 @@ use std::alloc::Global;
 
 /// Carries out the command that the words are, and answers how it ended.
 ///
-/// The command `check` reads an update stream from `source` and writes its text to `out`. Other words are written as
-/// `fault: Usage`, and the source is left alone.
+/// The command `check` takes the updates of a stream from `source` into one resource and writes to `out` what it holds then, or
+/// what is wrong (`braid_check::check_run`). Other words are written as `fault: Usage`, and the source is left alone.
 pub fn run<S: Source, O: Sink>(alloc: Global, words: &[Word], source: &mut S, out: &mut O) -> Status
     ensures runs { Runs words.now result (S.intake source.old) (S.intake source.new) (O.outflow out.old) (O.outflow out.new) }
     ensures completes { Succeeds words.now result (S.intake source.old) (S.intake source.new) (O.outflow out.old) (O.outflow out.new) }

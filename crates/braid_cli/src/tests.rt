@@ -7,6 +7,8 @@ use std::test::Fail;
 
 const ONE: &[u8] = b"Version: \"a-1\"\r\nParents:\r\nContent-Length: 2\r\n\r\nhi";
 
+const ONE_TEXT: &[u8] = b"versions: 1\nfrontier: \"a-1\"\nlength: 2\ndigest: 16f68e38e2d2af2c0f82455355d769640b1dda0f72c99b60b18f6f42deefbc9d\ntext:\nhi\n";
+
 /// What a run on these words left.
 #[derive(Drop)]
 struct Outcome {
@@ -22,7 +24,7 @@ fn run_words(alloc: Global, words: &[&[u8]], input: &[u8]) -> Result<Outcome, Fa
         list.push(Word::of(alloc, word)?)?;
     }
     let mut source = MemSource::new(Bytes::of(alloc, input)?, 10, Vec::new(alloc));
-    let mut out = MemSink::new(alloc, 100, Vec::new(alloc))?;
+    let mut out = MemSink::new(alloc, 1_000, Vec::new(alloc))?;
     let status = commands::run(alloc, &list, &mut source, &mut out);
     Ok(Outcome {
         status,
@@ -34,7 +36,7 @@ fn run_words(alloc: Global, words: &[&[u8]], input: &[u8]) -> Result<Outcome, Fa
 #[test]
 fn the_first_word_picks_the_run(rt: HostRuntime) -> Result<(), Fail> {
     let rows: [(&[&[u8]], &[u8], Status, &[u8]); 3] = [
-        (&[b"check"], ONE, Status::Done, b"versions: 1\ntext:\nhi\n"),
+        (&[b"check"], ONE, Status::Done, ONE_TEXT),
         (
             &[b"check"],
             b"no colon\n",

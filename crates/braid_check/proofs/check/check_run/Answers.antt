@@ -1,6 +1,6 @@
 use Rattle.std.proofs.Common.{◌∙◌, ap, nat_eq}
 use Rattle.std.specs.Cmp.Lexicographic.{pointwise}
-use Rattle.braid_check.proofs.Completeness.{writes_chain}
+use Rattle.braid_check.proofs.Completeness.{writes_history}
 use Rattle.braid_check.proofs.OneWord.{one_word}
 use Rattle.braid_check.proofs.check.check_run.Goals as goal
 
@@ -12,4 +12,4 @@ returns-in-len1-clause-runs g c =
     }
 
 pub returns-in-len1-clause-completes : goal.returns-in-len1-clause-completes
-returns-in-len1-clause-completes g c us bytes e l chain stream below q t = writes_chain _ _ _ _ _ c.check_stream.ensures.runs us bytes l chain stream below q t
+returns-in-len1-clause-completes g c us bytes e l chain stream below q t = writes_history _ _ _ _ _ c.check_stream.ensures.runs us bytes l chain stream below q t

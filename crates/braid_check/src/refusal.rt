@@ -1,0 +1,85 @@
+//! The line for an update that was refused.
+
+ghost use Rattle.std.specs.Prelude.{◌≡◌, ◌++◌, IfOk, codes, decimal};
+ghost use Rattle.braid_ids.specs.Identifiers.{spelled_id};
+ghost use Rattle.braid_check.specs.Accepted.{limit_of};
+ghost use Rattle.braid_check.specs.CheckTexts.{refusal_text, count_text};
+
+use crate::number::push_number;
+use crate::taking::REPLICA_LIMITS;
+use braid_ids::{Bytes, Id, Memory};
+use braid_text::{Accept, Which};
+use std::alloc::Global;
+
+/// The line for an update that was refused.
+pub fn refusal_report(alloc: Global, answer: &Accept) -> Result<Bytes, Memory>
+    ensures ok { IfOk result (λ text. text ≡ refusal_text answer.now) }
+{
+    match answer {
+        Accept::Clash { id } => id_report(alloc, b"fault: Clash ", id),
+        Accept::UnknownParent { id } => id_report(alloc, b"fault: UnknownParent ", id),
+        Accept::OutOfRange { patch, len } => range_report(alloc, *patch, *len),
+        Accept::Full { which, .. } => full_report(alloc, *which),
+        Accept::New | Accept::Known | Accept::Memory => Bytes::of(alloc, b""),
+    }
+}
+
+/// A line of these words and an identifier as a String.
+fn id_report(alloc: Global, words: &[u8], id: &Id) -> Result<Bytes, Memory>
+    ensures ok { IfOk result (λ text. text ≡ words.now ++ spelled_id id.now ++ codes "\n") }
+{
+    let mut line = Bytes::of(alloc, words)?;
+    line.push(id.spell(alloc)?.get())?;
+    line.push(b"\n")?;
+    Ok(line)
+}
+
+/// The line for a patch that ends past the text at the update's parents.
+fn range_report(alloc: Global, patch: u32, len: u32) -> Result<Bytes, Memory>
+    ensures ok { IfOk result (λ text. text ≡ codes "fault: OutOfRange patch " ++ decimal patch ++ codes " len " ++ decimal len ++ codes "\n") }
+{
+    let mut line = Bytes::of(alloc, b"fault: OutOfRange patch ")?;
+    push_number(alloc, &mut line, patch as u64)?;
+    line.push(b" len ")?;
+    push_number(alloc, &mut line, len as u64)?;
+    line.push(b"\n")?;
+    Ok(line)
+}
+
+/// The line for a limit that an update would pass.
+fn full_report(alloc: Global, which: Which) -> Result<Bytes, Memory>
+    ensures ok { IfOk result (λ text. text ≡ codes "fault: Full " ++ count_text which ++ codes " " ++ decimal (limit_of which) ++ codes "\n") }
+{
+    let mut line = Bytes::of(alloc, b"fault: Full ")?;
+    line.push(count_name(which).as_bytes())?;
+    line.push(b" ")?;
+    push_number(alloc, &mut line, limit_of(which))?;
+    line.push(b"\n")?;
+    Ok(line)
+}
+
+/// The name of a count, as it is printed.
+fn count_name(which: Which) -> &'static str
+    ensures value { result.now ≡ count_text which }
+{
+    match which {
+        Which::Resources => "resources",
+        Which::Versions => "versions",
+        Which::Elements => "elements",
+        Which::Deletions => "deletions",
+        Which::Width => "width",
+    }
+}
+
+/// The limit of one count. There is one resource.
+fn limit_of(which: Which) -> u64
+    ensures value { result ≡ limit_of which }
+{
+    match which {
+        Which::Resources => 1,
+        Which::Versions => REPLICA_LIMITS.versions,
+        Which::Elements => REPLICA_LIMITS.elements,
+        Which::Deletions => REPLICA_LIMITS.deletions,
+        Which::Width => REPLICA_LIMITS.width,
+    }
+}
