@@ -1,6 +1,6 @@
 //! Contents: a body, or patches; and the update that ends with one.
 
-ghost use Rattle.std.specs.Prelude.{◌≡◌, ℕ, ◌+◌, ◌<◌, ◌≤◌, ◌^◌, List, [], ◌++◌, length, Ok};
+ghost use Rattle.std.specs.Prelude.{◌≡◌, ◌+◌, ◌<◌, ◌^◌, [], length, Ok};
 ghost use Rattle.braid_change.specs.Texts.{IsTextOf};
 ghost use Rattle.braid_grammar.specs.Readings.{patch_len};
 ghost use Rattle.braid_frame.specs.Goings.{IsFraming, behind_head, behind_patch, behind_count};

@@ -1,6 +1,6 @@
 //! The framer.
 
-ghost use Rattle.std.specs.Prelude.{◌≡◌, ℕ, ◌+◌, ◌<◌, ◌^◌, ◌↔◌, List, [], Ok, Err, IsTrue, length};
+ghost use Rattle.std.specs.Prelude.{◌≡◌, ℕ, ◌+◌, ◌<◌, ◌^◌, ◌↔◌, List, [], Err, IsTrue, length};
 ghost use Rattle.braid_change.specs.Updates.{UpdateView};
 ghost use Rattle.braid_grammar.specs.Streams.{IsStream};
 ghost use Rattle.braid_frame.specs.declared.fed.FeedFault.TheVariants as faults;

@@ -1,6 +1,6 @@
 //! Lines of a head: keeping them until they end, and judging each once.
 
-ghost use Rattle.std.specs.Prelude.{◌≡◌, ◌<◌, ◌≤◌, ◌-◌, ◌+◌, length, drop, IfOk, OnErr};
+ghost use Rattle.std.specs.Prelude.{◌≡◌, ◌<◌, length, IfOk, OnErr};
 ghost use Rattle.braid_grammar.specs.Outcomes.{head_limit};
 ghost use Rattle.braid_frame.specs.HeadLines.{IsLineLen, KeepsLine, Judges};
 

@@ -1,6 +1,6 @@
 //! One step of the machine: so many bytes of a piece, in the state that a framer is in.
 
-ghost use Rattle.std.specs.Prelude.{◌≡◌, true, ℕ, ◌+◌, ◌<◌, ◌≤◌, ◌^◌, List, [], ◌++◌, length, drop};
+ghost use Rattle.std.specs.Prelude.{◌≡◌, true, ℕ, ◌+◌, ◌<◌, ◌≤◌, ◌^◌, List, length, drop};
 ghost use Rattle.braid_change.specs.Updates.{UpdateView};
 ghost use Rattle.braid_fields.specs.Lines.{is_empty_line};
 ghost use Rattle.braid_grammar.specs.Outcomes.{head_limit};

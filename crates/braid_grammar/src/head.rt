@@ -1,6 +1,6 @@
 //! Heads at the front of bytes.
 
-ghost use Rattle.std.specs.Prelude.{◌≡◌, ◌<◌, ◌+◌, ◌^◌, [], length, IfOk};
+ghost use Rattle.std.specs.Prelude.{◌<◌, ◌+◌, ◌^◌, [], length, IfOk};
 ghost use Rattle.braid_grammar.specs.Lines.{lines_of};
 ghost use Rattle.braid_grammar.specs.Heads.{Verdict, behind, fields_of, some_fields_of, head_of};
 ghost use Rattle.braid_grammar.specs.Outcomes.{settle, head_at};

@@ -1,6 +1,6 @@
 //! Patches at the front of bytes.
 
-ghost use Rattle.std.specs.Prelude.{◌++◌, ◌<◌, ◌+◌, ◌^◌, length, IfOk};
+ghost use Rattle.std.specs.Prelude.{◌<◌, ◌+◌, ◌^◌, length, IfOk};
 ghost use Rattle.braid_grammar.specs.Outcomes.{Whole, then_read, content_at};
 ghost use Rattle.braid_grammar.specs.Readings.{patch_of, patch_at, patches_at};
 ghost use Rattle.braid_grammar.specs.Readers.{Finds};
