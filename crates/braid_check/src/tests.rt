@@ -239,10 +239,10 @@ fn the_first_refused_update_is_told(rt: HostRuntime) -> Result<(), Fail> {
             ],
             b"fault: OutOfRange patch 0 len 5\n",
         ),
-        (&[X_1, b"no colon\n", M_1], b"fault: BadLine at 39\n"),
+        (&[X_1, b"no colon\n", M_1], b"fault: BadLine at 37\n"),
         (
             &[ONE_CANONICAL, ONE, b"no colon\n"],
-            b"fault: Torn at 111\n",
+            b"fault: BadLine at 102\n",
         ),
     ];
     for (pieces, text) in rows {
