@@ -6,7 +6,7 @@
 //! nothing is written before that is known. The stream is that of `braid_grammar`, and the answers to updates are those
 //! of `braid_text`. An update that is known is passed over.
 //!
-//! An update costs a few passes over the elements that the resource has (`braid_tree::PlainDocument`), so a long stream
+//! An update costs about one pass over the elements that the resource has (`braid_tree::PlainDocument`), so a long stream
 //! costs the square of its length.
 #![tactic(auto)]
 
