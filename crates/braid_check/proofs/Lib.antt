@@ -8,3 +8,4 @@ pub mod Completeness
 pub mod Decided
 pub mod Stopped
 pub mod Lines
+pub mod Ends

@@ -14,7 +14,7 @@ use Rattle.braid_frame.specs.Goings.{HasFault}
 use Rattle.braid_stream.proofs.AtHand.{begins_runs}
 use Rattle.braid_stream.proofs.Budgets.{begins_on}
 use Rattle.braid_check.specs.Accepted.{AreAccepted, IsRefused, history_of, replica_answer}
-use Rattle.braid_check.specs.CheckTexts.{Ending, found, ended, failed, spent, IsFound, fault, refusal, ShowNothing, EndsSo, stream, torn, IsCheckText, fault_text, history_text, refusal_text}
+use Rattle.braid_check.specs.CheckTexts.{Ending, found, ended, failed, spent, IsFound, fault, refusal, ShowNothing, IsEndText, stream, torn, IsCheckText, fault_text, history_text, refusal_text}
 
 -- bytes whose updates are accepted show none that is refused
 pub no_refusal : (ws us : List UpdateView) (u : UpdateView) (bytes : List ℕ) (o : Outcome UpdateView) → IsEnd o → Runs 0 bytes ws o → AreAccepted ws → IsRefused us u → BeginsWith us u bytes → ⊥
@@ -89,7 +89,7 @@ one_found bytes x y (refusal us u n b e) (refusal vs v m c w) =
     let one = one_refusal us vs u v bytes n b m c in
     e ∙ (λ i. refusal_text (replica_answer (history_of (one.before i)) (one.same i))) ∙ sym w
 
-one_end : (bytes x y : List ℕ) (s t : Status) → EndsSo bytes s x → EndsSo bytes t y → (s ≡ t) × (x ≡ y)
+one_end : (bytes x y : List ℕ) (s t : Status) → IsEndText bytes s x → IsEndText bytes t y → (s ≡ t) × (x ≡ y)
 one_end bytes x y s t (stream us c k e w) (stream vs d l f z) = (e ∙ sym f, w ∙ ap (λ (t : List UpdateView). history_text (history_of t)) (one_stream us vs bytes k l) ∙ sym z)
 one_end bytes x y s t (stream us c k e w) (torn n l f z) = absurd (l.no_stream us k)
 one_end bytes x y s t (torn n k e w) (stream vs d l f z) = absurd (k.no_stream vs l)

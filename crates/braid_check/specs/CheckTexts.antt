@@ -107,21 +107,22 @@ pub data IsFound (bytes text : List ℕ) : Type 0 where
   fault : (us : List UpdateView) (f : FrameFault) → AreAccepted us → HasFault us bytes f → text ≡ fault_text f → IsFound bytes text
   refusal : (us : List UpdateView) (u : UpdateView) → IsRefused us u → BeginsWith us u bytes → text ≡ refusal_text (replica_answer (history_of us) u) → IsFound bytes text
 
--- the bytes show nothing of the kind: the updates that they complete are accepted, and they have no fault
+-- the bytes show neither a fault of the stream nor a refused update: the updates that they complete are accepted, and they
+-- have no fault
 pub record ShowNothing (bytes : List ℕ) : Type 0 where
   pub updates : List UpdateView
   pub accepted : AreAccepted updates
   pub have : HaveUpdates updates bytes
 
 -- the bytes are a stream of accepted updates; or they are torn behind such: neither a stream nor at fault
-pub data EndsSo (bytes : List ℕ) (status : Status) (text : List ℕ) : Type 0 where
-  stream : (us : List UpdateView) → AreAccepted us → IsStream us bytes → status ≡ Done → text ≡ history_text (history_of us) → EndsSo bytes status text
-  torn : ShowNothing bytes → IsTorn bytes → status ≡ Bad → text ≡ torn_text (length bytes) → EndsSo bytes status text
+pub data IsEndText (bytes : List ℕ) (status : Status) (text : List ℕ) : Type 0 where
+  stream : (us : List UpdateView) → AreAccepted us → IsStream us bytes → status ≡ Done → text ≡ history_text (history_of us) → IsEndText bytes status text
+  torn : ShowNothing bytes → IsTorn bytes → status ≡ Bad → text ≡ torn_text (length bytes) → IsEndText bytes status text
 
 -- the status and the text that follow from the bytes and from how reading ended
 abbrev pub IsCheckText : Ending → List ℕ → Status → List ℕ → Type 0
 IsCheckText found bytes status text = (status ≡ Bad) × IsFound bytes text
-IsCheckText ended bytes status text = EndsSo bytes status text
+IsCheckText ended bytes status text = IsEndText bytes status text
 IsCheckText failed bytes status text = ShowNothing bytes × (status ≡ Outside) × (text ≡ read_fault_text)
 IsCheckText spent bytes status text = ShowNothing bytes × (status ≡ Cut) × (text ≡ spent_text)
 
@@ -134,7 +135,7 @@ text_at_stop H (stops.Refused answer) = refusal_text answer
 text_at_stop H stops.ReadFault = read_fault_text
 text_at_stop H stops.Spent = spent_text
 
--- and its status
+-- the status of a run that stopped so, where its text was written
 abbrev pub status_of : Stop → Status
 status_of stops.End = Done
 status_of (stops.Torn at) = Bad

@@ -11,14 +11,14 @@ use Rattle.braid_text.specs.Histories.{graph_of, IsLegal, elements_of, deletions
 use Rattle.braid_text.specs.declared.accept.Accept.{Accept}
 use Rattle.braid_check.specs.declared.stop.Stop.{Stop}
 use Rattle.braid_check.specs.declared.stop.Stop.TheVariants as stops
-use Rattle.braid_check.specs.Accepted.{AreAccepted, IsRefused, history_of, replica_answer}
+use Rattle.braid_check.specs.Accepted.{replica_limits, AreAccepted, IsRefused, history_of, replica_answer}
 
 -- a history is within the limits of a replica
 pub record IsWithin (H : List UpdateView) : Type 0 where
-  pub versions : length H ≤ 524_288
-  pub elements : length (elements_of H) ≤ 33_554_432
-  pub deletions : length (deletions_of H) ≤ 67_108_864
-  pub width : length (frontier_of (graph_of H)) ≤ 2_000
+  pub versions : length H ≤ replica_limits.versions
+  pub elements : length (elements_of H) ≤ replica_limits.elements
+  pub deletions : length (deletions_of H) ≤ replica_limits.deletions
+  pub width : length (frontier_of (graph_of H)) ≤ replica_limits.width
 
 -- a resource took these updates of a stream, each of which was accepted
 pub record Keeps (us H : List UpdateView) : Type 0 where

@@ -48,19 +48,19 @@ abbrev pub check_words : List (List ℕ)
 check_words = codes "check" ∷ []
 
 -- the line was written under status Usage, or a front of it under status Outside where a write failed
-abbrev pub Refused : Status → Outflow → Outflow → Type 0
-Refused status old new =
+abbrev pub EndsAsUsage : Status → Outflow → Outflow → Type 0
+EndsAsUsage status old new =
     ((status ≡ Usage) × WritesAll usage_text old new) ⊎ ((status ≡ Outside) × WritesPart usage_text old new)
 
 -- other words: the source is left alone, and the line is written
-pub record Refuses (status : Status) (before after : Intake) (old new : Outflow) : Type 0 where
+pub record LeavesAlone (status : Status) (before after : Intake) (old new : Outflow) : Type 0 where
   pub untouched : after ≡ before
-  pub line : Refused status old new
+  pub line : EndsAsUsage status old new
 
 -- a run on these words
 pub record Runs (words : List (List ℕ)) (status : Status) (before after : Intake) (old new : Outflow) : Type 0 where
   pub check : words ≡ check_words → CheckRuns status before after old new
-  pub others : words ≢ check_words → Refuses status before after old new
+  pub others : words ≢ check_words → LeavesAlone status before after old new
 
 -- A stream of accepted updates is never answered with a fault: where the word is `check`, the source tells that it has
 -- such a stream left, below the limit, and neither count of faults rose, the text of their history was written under

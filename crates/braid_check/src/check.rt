@@ -1,5 +1,5 @@
 ghost use Rattle.std.specs.Prelude.{◌≡◌};
-ghost use Rattle.braid_check.specs.Runs.{CheckRuns, Refused, Runs, Succeeds};
+ghost use Rattle.braid_check.specs.Runs.{CheckRuns, EndsAsUsage, Runs, Succeeds};
 
 use crate::reading::read_history;
 use crate::report::report;
@@ -8,8 +8,9 @@ use braid_io::{Sink, Source, Status, write_all};
 use std::alloc::Global;
 
 /// Carries out `check`, where that is the one word: takes the updates of a stream from `source` into one resource with the
-/// limits of a replica, and writes to `out` what it holds then, or one line that says what is wrong. Other words are
-/// written as `fault: Usage`, and the source is left alone.
+/// limits of a replica, and writes to `out` what it holds then, or one line that says what is wrong. An update that is
+/// known is passed over. docs/FORMATS.md lists the lines; identifiers are Strings of a header list (RFC 8941), the digest
+/// is SHA-256 (FIPS 180-4). For other words it writes `fault: Usage`, and leaves the source alone.
 ///
 /// It reads to the end of the source, to the first fault of the stream, to the first update that is refused, to a read
 /// that fails, or until 1,099,511,627,776 bytes have come: by reads of at most 8,192 bytes. The limits of a replica are
@@ -17,7 +18,8 @@ use std::alloc::Global;
 ///
 /// The status: Done where the lines of a history were written; Bad for a fault of the stream, for bytes that end within a
 /// line, a head or a content, or before a patch, and for an update that is refused; Usage for other words; Cut where too
-/// many bytes came; Outside where a read or a write failed; Memory where there was none, and then nothing was written.
+/// many bytes came; Outside where a read failed, and then `fault: ReadFault` was written, or where a write failed, and then
+/// a front of the text was; Memory where there was none, and then nothing was written.
 pub fn check_run<S: Source, O: Sink>(
     alloc: Global,
     words: &[Word],
@@ -34,9 +36,12 @@ pub fn check_run<S: Source, O: Sink>(
     }
 }
 
-/// Writes that the words are no command.
+/// Writes that the words are no command: `fault: Usage`.
+///
+/// The status: Usage where the line was written; Outside where a write failed, and then a front of the line was. It takes no
+/// memory.
 pub fn refuse_words<O: Sink>(out: &mut O) -> Status
-    ensures refused { Refused result (O.outflow out.old) (O.outflow out.new) }
+    ensures refused { EndsAsUsage result (O.outflow out.old) (O.outflow out.new) }
     ensures kept { O.beside_writes out.new ≡ O.beside_writes out.old }
 {
     match write_all(b"fault: Usage\n", out) {

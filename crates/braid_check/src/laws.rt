@@ -6,7 +6,7 @@ ghost use Rattle.braid_change.specs.Updates.{UpdateView};
 ghost use Rattle.braid_grammar.specs.Streams.{IsStream};
 ghost use Rattle.braid_text.specs.Histories.{SameGraph, IsLegal};
 ghost use Rattle.braid_check.specs.Accepted.{history_of, replica_answer, IsAccepted, AreAccepted};
-ghost use Rattle.braid_check.specs.CheckTexts.{Ending, IsCheckText, IsFound, ShowNothing, history_text, found};
+ghost use Rattle.braid_check.specs.CheckTexts.{Ending, IsCheckText, IsFound, IsEndText, ShowNothing, history_text, found};
 ghost use Rattle.braid_check.specs.Kept.{IsWithin};
 
 /// The history that updates leave has exactly these updates. One more joins it at the end, where it is not among them,
@@ -53,8 +53,10 @@ pub fn found_decides()
         → IsCheckText found bytes status text → IsCheckText found (bytes ++ more) status text }
 {}
 
-/// Bytes show such a fault or such an update, or nothing of the kind, and never both.
+/// Bytes show such a fault or such an update, or neither, and never both. Where they show neither, and are all there are, they
+/// have a status and a text.
 pub fn found_or_not()
     ensures either { (bytes : List ℕ) → ((text : List ℕ) × IsFound bytes text) ⊎ ShowNothing bytes }
     ensures apart { (bytes text : List ℕ) → IsFound bytes text → ¬ ShowNothing bytes }
+    ensures ends { (bytes : List ℕ) → ShowNothing bytes → (status : Ended) × (text : List ℕ) × IsEndText bytes status text }
 {}

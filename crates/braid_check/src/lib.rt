@@ -6,8 +6,10 @@
 //! nothing is written before that is known. The stream is that of `braid_grammar`, and the answers to updates are those
 //! of `braid_text`. An update that is known is passed over.
 //!
-//! An update costs about one pass over the elements that the resource has (`braid_tree::PlainDocument`), so a long stream
-//! costs the square of its length.
+//! Lines name identifiers as Strings of a header list (RFC 8941), and the digest is SHA-256 (FIPS 180-4).
+//!
+//! Not promised: how long a run takes, and that a read of the source comes back. An update costs about one pass over the
+//! elements that the resource has (`braid_tree::PlainDocument`), so a long stream costs the square of its length.
 #![tactic(auto)]
 
 mod check;

@@ -39,9 +39,9 @@ fn range_report(alloc: Global, patch: u32, len: u32) -> Result<Bytes, Memory>
     ensures ok { IfOk result (λ text. text ≡ codes "fault: OutOfRange patch " ++ decimal patch ++ codes " len " ++ decimal len ++ codes "\n") }
 {
     let mut line = Bytes::of(alloc, b"fault: OutOfRange patch ")?;
-    push_number(alloc, &mut line, patch as u64)?;
+    push_number(&mut line, patch as u64)?;
     line.push(b" len ")?;
-    push_number(alloc, &mut line, len as u64)?;
+    push_number(&mut line, len as u64)?;
     line.push(b"\n")?;
     Ok(line)
 }
@@ -53,7 +53,7 @@ fn full_report(alloc: Global, which: Which) -> Result<Bytes, Memory>
     let mut line = Bytes::of(alloc, b"fault: Full ")?;
     line.push(count_name(which).as_bytes())?;
     line.push(b" ")?;
-    push_number(alloc, &mut line, limit_of(which))?;
+    push_number(&mut line, limit_of(which))?;
     line.push(b"\n")?;
     Ok(line)
 }

@@ -35,7 +35,7 @@ fn torn_report(alloc: Global, at: u64) -> Result<Bytes, Memory>
     ensures ok { IfOk result (λ text. text ≡ torn_text at) }
 {
     let mut line = Bytes::of(alloc, b"fault: Torn at ")?;
-    push_number(alloc, &mut line, at)?;
+    push_number(&mut line, at)?;
     line.push(b"\n")?;
     Ok(line)
 }
@@ -47,7 +47,7 @@ fn fault_report(alloc: Global, fault: &FrameFault) -> Result<Bytes, Memory>
     let mut line = Bytes::of(alloc, b"fault: ")?;
     line.push(reason_name(fault.reason).as_bytes())?;
     line.push(b" at ")?;
-    push_number(alloc, &mut line, fault.at)?;
+    push_number(&mut line, fault.at)?;
     line.push(b"\n")?;
     Ok(line)
 }
@@ -60,11 +60,11 @@ fn history_report(alloc: Global, resource: &Resource) -> Result<Bytes, Memory>
     let text = read_text(alloc, resource, &frontier)?;
     let digest = digest_text(alloc, resource)?;
     let mut out = Bytes::of(alloc, b"versions: ")?;
-    push_number(alloc, &mut out, resource.entries() as u64)?;
+    push_number(&mut out, resource.entries() as u64)?;
     out.push(b"\nfrontier:")?;
     push_frontier(alloc, &mut out, &frontier)?;
     out.push(b"\nlength: ")?;
-    push_number(alloc, &mut out, text.chars().len() as u64)?;
+    push_number(&mut out, text.chars().len() as u64)?;
     out.push(b"\ndigest: ")?;
     out.push(digest.as_bytes())?;
     out.push(b"\ntext:\n")?;

@@ -150,7 +150,12 @@ type Orders<'a> = (&'a [&'a [u8]], &'a [&'a [u8]], &'a [u8]);
 
 #[test]
 fn updates_read_the_same_in_each_order(rt: HostRuntime) -> Result<(), Fail> {
-    let rows: [Orders; 5] = [
+    let rows: [Orders; 6] = [
+        (
+            &[X_1, P_1, Q_1],
+            &[X_1, Q_1, P_1],
+            b"versions: 3\nfrontier: \"p-1\", \"q-1\"\nlength: 4\ndigest: 211bf1e20861d7807b6a44d1df00344fb6393a360bb0759cbf0d2bbd8a4b4db0\ntext:\naQPb\n",
+        ),
         (
             &[X_1, P_1, Q_1, R_1],
             &[X_1, Q_1, P_1, R_1],
