@@ -7,7 +7,8 @@ use std::test::Fail;
 
 const ONE: &[u8] = b"Version: \"a-1\"\r\nParents:\r\nContent-Length: 2\r\n\r\nhi";
 
-const ONE_TEXT: &[u8] = b"versions: 1\nfrontier: \"a-1\"\nlength: 2\ndigest: 16f68e38e2d2af2c0f82455355d769640b1dda0f72c99b60b18f6f42deefbc9d\ntext:\nhi\n";
+const ONE_TEXT: &[u8] =
+    b"versions: 1\nfrontier: \"a-1\"\nlength: 2\ndigest: 16f68e38e2d2af2c0f82455355d769640b1dda0f72c99b60b18f6f42deefbc9d\ntext:\nhi\n";
 
 /// What a run on these words left.
 #[derive(Drop)]
