@@ -287,6 +287,37 @@ fn a_frontier_may_have_two_thousand_identifiers(rt: HostRuntime) -> Result<(), F
     Ok(())
 }
 
+/// So many bodies of 1 KiB, each on the one before.
+fn chain(alloc: Global, body: &[u8], count: u32) -> Result<Vec<u8>, Fail>
+    requires few { count < 1000 }
+{
+    let mut bytes = Vec::from_slice(alloc, b"Version: \"a-0\"\nPatches: 0\n\n")?;
+    for n in 0..count {
+        let next = n + 1;
+        let head = format!(in alloc;
+            "Version: \"a-{next}\"\nParents: \"a-{n}\"\nContent-Length: 1024\n\n"
+        )?;
+        bytes.extend_from_slice(head.as_bytes())?;
+        bytes.extend_from_slice(body)?;
+    }
+    Ok(bytes)
+}
+
+#[test]
+fn a_chain_of_two_hundred_bodies_has_the_last_one(rt: HostRuntime) -> Result<(), Fail> {
+    let body = vec![in rt.alloc(); b'x'; 1024]?;
+    let input = chain(rt.alloc(), &body, 200)?;
+    let found = run_words(rt.alloc(), &[b"check"], &input, 9000, &[], &[])?;
+    assert_eq!(rt; found.status, Status::Done);
+    assert!(rt;
+        found
+            .out
+            .written()
+            .starts_with(b"versions: 201\nfrontier: \"a-200\"\nlength: 1024\n")
+    );
+    Ok(())
+}
+
 #[test]
 fn a_failed_read_and_a_failed_write_are_told_by_the_status(rt: HostRuntime) -> Result<(), Fail> {
     let rows: [(&[u64], &[u64], Status, &[u8]); 4] = [

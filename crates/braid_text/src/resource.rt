@@ -61,7 +61,7 @@ impl Resource {
     /// and `room` come to at most 524,288 versions, 33,554,432 elements and 67,108,864 deletions.
     ///
     /// It costs the ancestry of the parents and a pass over the elements up to the end of the last patch, for a body two
-    /// over all of them; each run with text and each deletion looks its element up from the end of the elements.
+    /// over all of them; runs and deletions look for their elements from the last one found on.
     ///
     /// An answer other than New leaves the resource as it was, and the update is dropped. Known takes no memory.
     pub fn accept(&mut self, alloc: Global, update: Update, room: &Room) -> Accept

@@ -1,5 +1,5 @@
 -- What a document of rows keeps, and how contracts see it.
-use Rattle.std.specs.Prelude.{◌≡◌, ℕ, zero, suc, ◌+◌, ◌-◌, ◌<◌, ◌^◌, List, [], ◌∷◌, Bool, false, Option, Some, None, All, if◌then◌else◌, length, map, min, slice_get, IsSomeAnd, IfSome}
+use Rattle.std.specs.Prelude.{◌≡◌, ℕ, zero, suc, ◌+◌, ◌-◌, ◌<◌, ◌≤◌, ◌^◌, List, [], ◌∷◌, Bool, false, Option, Some, None, All, if◌then◌else◌, length, map, min, slice_get, IsSomeAnd, IfSome}
 use Rattle.std.specs.declared.cmp.Ordering.TheVariants.{Less}
 use Rattle.braid_tree.specs.Keys.{key_cmp}
 use Rattle.braid_tree.specs.Rows.{Stamp, Row, RowDeletion, DocumentRoom, HasPlace, AreKnown, key_at, place}
@@ -41,6 +41,10 @@ free_in capacity len = min (capacity - len) (4294967295 - len)
 -- the row number k is that of the place
 abbrev pub IsPlaceOf : List Row → At → ℕ → Type 0
 IsPlaceOf rows at k = IsSomeAnd (slice_get rows k) (λ (r : Row). r.at ≡ at)
+
+-- no row from number n on is that of the place
+abbrev pub IsBefore : List Row → At → ℕ → Type 0
+IsBefore rows at n = (k : ℕ) → n ≤ k → ¬ (IsPlaceOf rows at k)
 
 -- row number k, if there is one, has a greater key than `first`
 abbrev pub IsPassed : List Stamp → List Row → At → ℕ → Type 0

@@ -7,9 +7,9 @@
 //! key is this project's. `laws` says what the order promises; a `Document` keeps elements in it.
 //!
 //! `PlainDocument` keeps one row of 32 bytes for each element, 20 bytes for each deletion and 32 beside its identifier for
-//! each version; up to twice that while room is kept. A run or a deletion takes time linear in the rows, so a version
-//! that deletes m elements m times that; `len`, `visible_at` and `text` take time linear in the rows and the deletions.
-//! Paths are never built.
+//! each version; up to twice that while room is kept. A run or a deletion looks for its element from the last one on: at
+//! worst over all rows, and for a version whose deletions come in reading order once or twice over them for all of
+//! these. `len`, `visible_at` and `text` take time linear in the rows and the deletions. Paths are never built.
 //!
 //! Not promised: that texts typed at one place at one time, each as several versions, do not mix.
 #![tactic(auto)]

@@ -14,13 +14,15 @@ use std::marker::Model;
 /// A document with one row for each element, in reading order.
 ///
 /// A row takes 32 bytes, a deletion 20, and a version its identifier and 32 more; all three up to twice that while room
-/// for more is kept. A run or a deletion finds its element by one pass over the rows, so a version that deletes m
-/// elements takes time m times the rows; a run moves what follows it once.
+/// for more is kept. A run or a deletion looks for its element from the row of the one before on, and then over all
+/// rows; so what a version deletes by rising places costs one pass or two. A run moves what follows it once.
 #[derive(Drop)]
 pub struct PlainDocument {
     versions: Vec<Version>,
     elements: Vec<PlainRow>,
     removals: Vec<Removal>,
+    /// The row that was put or looked up last. The next one is often that one or near behind it: only a hint.
+    near: usize,
 }
 
 impl Model for PlainDocument {
@@ -54,6 +56,7 @@ impl PlainDocument {
             versions: Vec::new(alloc),
             elements: Vec::new(alloc),
             removals: Vec::new(alloc),
+            near: 0,
         }
     }
 }
@@ -83,20 +86,22 @@ impl Document for PlainDocument {
         let first = At { version, ordinal };
         let start = match after {
             None => 0,
-            Some(at) => index_of(&self.elements, at) + 1,
+            Some(at) => index_of(&self.elements, self.near, at) + 1,
         };
         let index = landing(&self.versions, &self.elements, start, first);
         put_run(&mut self.elements, index, first, after, text);
+        self.near = index + text.len().saturating_sub(1);
     }
 
     fn delete(&mut self, at: At) {
         let by = (self.versions.len() - 1) as u32;
         let number = self.removals.len() as u32;
-        let index = index_of(&self.elements, at);
+        let index = index_of(&self.elements, self.near, at);
         let row = &mut self.elements[index];
         let earlier = row.newest;
         row.newest = Some(number);
         self.removals.push_reserved(Removal { at, by, earlier });
+        self.near = index;
     }
 
     fn len(&self, marks: &Marks) -> u32 {

@@ -1,6 +1,6 @@
-ghost use Rattle.std.specs.Prelude.{◌≡◌, ℕ, ◌+◌, ◌<◌, ◌≤◌, ◌++◌, ◌^◌, length, take, drop, vec_len, vec_capacity};
+ghost use Rattle.std.specs.Prelude.{◌≡◌, ℕ, ◌+◌, ◌<◌, ◌≤◌, ◌++◌, ◌^◌, IfSome, IfNone, length, take, drop, vec_len, vec_capacity};
 ghost use Rattle.braid_tree.specs.Rows.{HasPlace, AreKnown};
-ghost use Rattle.braid_tree.specs.Inside.{stamps_in, rows_in, new_rows, IsPlaceOf, IsPassed, IsNotPassed};
+ghost use Rattle.braid_tree.specs.Inside.{stamps_in, rows_in, new_rows, IsPlaceOf, IsBefore, IsPassed, IsNotPassed};
 
 use crate::at::At;
 use crate::version::{Version, has_greater_key};
@@ -15,12 +15,40 @@ pub struct PlainRow {
     pub newest: Option<u32>,
 }
 
-/// Where an element stands.
-pub fn index_of(rows: &[PlainRow], at: At) -> usize
+/// Where an element stands. It is looked for from row `near` on, and then from there back to the front: so what stands
+/// at `near` or soon behind it is found at once.
+pub fn index_of(rows: &[PlainRow], near: usize, at: At) -> usize
     requires there { HasPlace (rows_in rows.now) at }
     ensures found { IsPlaceOf (rows_in rows.now) at result }
 {
-    for i in (0..rows.len()).rev() {
+    let near = near.min(rows.len());
+    match index_from(rows, near, at) {
+        Some(index) => index,
+        None => index_before(rows, near, at),
+    }
+}
+
+/// Where an element stands among the rows from `start` on.
+fn index_from(rows: &[PlainRow], start: usize, at: At) -> Option<usize>
+    ensures found { IfSome result (IsPlaceOf (rows_in rows.now) at) }
+    ensures none { IfNone result (IsBefore (rows_in rows.now) at start) }
+{
+    for i in start..rows.len() {
+        if rows[i].at == at {
+            return Some(i);
+        }
+    }
+    None
+}
+
+/// Where an element stands that is before row `end`.
+fn index_before(rows: &[PlainRow], end: usize, at: At) -> usize
+    requires there { HasPlace (rows_in rows.now) at }
+    requires within { end ≤ length rows.now }
+    requires before { IsBefore (rows_in rows.now) at end }
+    ensures found { IsPlaceOf (rows_in rows.now) at result }
+{
+    for i in (0..end).rev() {
         if rows[i].at == at {
             return i;
         }

@@ -11,22 +11,22 @@ use Rattle.braid_tree.proofs.plain.PlainDocumentDocument.insert_run.Goals as goa
 use Rattle.braid_tree.proofs.plain.PlainDocumentDocument.insert_run.Goals.{in-None, in-Some}
 
 -- the rows that are put are those of the origin that was asked for
-put_after : (c : goal.After-put_run) → c.put_run.new.rows.items ≡ take c.landing-index.result c.self.inside.elements.items ++ (new_rows (c.len.result - 1) c.args.after c.args.ordinal c.args.text.now ++ drop c.landing-index.result c.self.inside.elements.items)
+put_after : (c : goal.After-self-1) → c.put_run.new.rows.items ≡ take c.landing-index.result c.self.inside.elements.items ++ (new_rows (c.len.result - 1) c.args.after c.args.ordinal c.args.text.now ++ drop c.landing-index.result c.self.inside.elements.items)
 put_after c =
     let same : c.match-after.after ≡ c.args.after = elim c.match-after.branch [ in-None w ↦ w.after-is | in-Some w ↦ w.after-is ∙ sym w.in-Some.is ] in
     subst (λ (o : Option At). c.put_run.new.rows.items ≡ take c.landing-index.result c.self.inside.elements.items ++ (new_rows (c.len.result - 1) o c.args.ordinal c.args.text.now ++ drop c.landing-index.result c.self.inside.elements.items)) same c.put_run.ensures.put
 
-within : (c : goal.After-put_run) → c.landing-index.result ≤ length c.self.inside.elements.items
+within : (c : goal.After-self-1) → c.landing-index.result ≤ length c.self.inside.elements.items
 within c = subst (λ t. c.landing-index.result ≤ length t) c.deref-3.ensures.value c.landing-index.ensures.within
 
 -- the version begun last
-last_is : (c : goal.After-put_run) → c.len.result - 1 ≡ length (stamps_in c.self.inside.versions.items) - 1
+last_is : (c : goal.After-self-1) → c.len.result - 1 ≡ length (stamps_in c.self.inside.versions.items) - 1
 last_is c = omega (arith, c.len.ensures, length-map c.self.inside.versions.items stamp_of)
 
-begun : (c : goal.After-put_run) → 0 < length (stamps_in c.self.inside.versions.items)
+begun : (c : goal.After-self-1) → 0 < length (stamps_in c.self.inside.versions.items)
 begun c = subst (λ (v : PlainView). 0 < length v.stamps) (sym c.self.view_is) c.requires.begun
 
-kept : (c : goal.After-put_run) → IsKept c.self.inside.versions.items c.put_run.new.rows.items c.self.inside.removals.items
+kept : (c : goal.After-self-1) → IsKept c.self.inside.versions.items c.put_run.new.rows.items c.self.inside.removals.items
 kept c =
     let in' = c.self.inside in
     let last = last_is c in
@@ -50,12 +50,12 @@ returns-clause-put c =
     (puts_run c.self.inside.elements.items c.put_run.new.rows.items (c.len.result - 1) c.args.after c.args.ordinal c.args.text.now c.landing-index.result (within c) (put_after c)))
 
 -- where the walk over the neighbours ended, said of what is kept
-passed : (c : goal.After-put_run) (k : ℕ) → c.match-after.start ≤ k → k < c.landing-index.result → IsPassed (stamps_in c.self.inside.versions.items) (rows_in c.self.inside.elements.items) (place (c.len.result - 1) c.args.ordinal) k
+passed : (c : goal.After-self-1) (k : ℕ) → c.match-after.start ≤ k → k < c.landing-index.result → IsPassed (stamps_in c.self.inside.versions.items) (rows_in c.self.inside.elements.items) (place (c.len.result - 1) c.args.ordinal) k
 passed c k a b =
     subst (λ t. IsPassed (stamps_in c.self.inside.versions.items) (rows_in t) (place (c.len.result - 1) c.args.ordinal) k) c.deref-3.ensures.value
     (subst (λ t. IsPassed (stamps_in t) (rows_in c.deref-3.result.now) (place (c.len.result - 1) c.args.ordinal) k) c.deref-2.ensures.value (c.landing-index.ensures.passed k a b))
 
-stopped : (c : goal.After-put_run) → c.landing-index.result < length (rows_in c.self.inside.elements.items) → IsNotPassed (stamps_in c.self.inside.versions.items) (rows_in c.self.inside.elements.items) (place (c.len.result - 1) c.args.ordinal) c.landing-index.result
+stopped : (c : goal.After-self-1) → c.landing-index.result < length (rows_in c.self.inside.elements.items) → IsNotPassed (stamps_in c.self.inside.versions.items) (rows_in c.self.inside.elements.items) (place (c.len.result - 1) c.args.ordinal) c.landing-index.result
 stopped c l =
     let m : c.landing-index.result < length c.deref-3.result.now = subst (λ t. c.landing-index.result < length t) (sym c.deref-3.ensures.value) (omega (arith, l, length-map c.self.inside.elements.items row_of)) in
     subst (λ t. IsNotPassed (stamps_in c.self.inside.versions.items) (rows_in t) (place (c.len.result - 1) c.args.ordinal) c.landing-index.result) c.deref-3.ensures.value

@@ -3,13 +3,13 @@ use Rattle.std.proofs.lemmas.Bool.{cases_eq}
 use Rattle.braid_tree.specs.Inside.{rows_in, IsPlaceOf}
 use Rattle.braid_tree.proofs.Places.{place_number}
 use Rattle.braid_tree.proofs.RowReads.{place_read, place_within, other_place}
-use Rattle.braid_tree.proofs.row.index_of.Goals as goal
+use Rattle.braid_tree.proofs.row.index_before.Goals as goal
 
 pub unreachable-requires : goal.unreachable-requires
 unreachable-requires c = let p = place_number (rows_in c.args.rows.now) c.args.at c.requires.there in c.loop-i.invariant p.0 (omega arith) p.2
 
 pub loop-i-init : goal.loop-i-init
-loop-i-init c = λ k l h. let w = place_within c.args.rows.now c.args.at k h in omega arith
+loop-i-init c = c.requires.before
 
 pub loop-i-preserved : goal.loop-i-preserved
 loop-i-preserved c = λ k l h. elim (cases_eq k (c.loop-i.i - 1)) [
