@@ -86,3 +86,47 @@ pub record Takes (n : ℕ) (piece : List ℕ) (old new : MemOutflow) : Type 0 wh
 abbrev pub MemWrites : Wrote → List ℕ → MemOutflow → MemOutflow → Type 0
 MemWrites NotTaken piece old new = (Contains old.fails old.calls ⊎ (old.room ≡ 0)) × (new ≡ record old { calls = next_count old.calls; faults = next_count old.faults })
 MemWrites (Took n) piece old new = ¬ Contains old.fails old.calls × Takes n piece old new
+
+-- A link in memory: the bytes given and left, the most that one read gives, the bytes taken, the room left in bytes,
+-- the numbers of the calls that fail, the number of the next call, and the counts of failed reads and failed writes.
+pub record MemTalk : Type 0 where
+  pub taken : List ℕ
+  pub left : List ℕ
+  pub piece : ℕ
+  pub written : List ℕ
+  pub room : ℕ
+  pub fails : List ℕ
+  pub calls : ℕ
+  pub read_faults : ℕ
+  pub write_faults : ℕ
+
+-- The source's side of a link in memory.
+abbrev pub source_side : MemTalk → MemIntake
+source_side s = record { taken = s.taken; left = s.left; piece = s.piece; fails = s.fails; calls = s.calls; faults = s.read_faults }
+
+-- The sink's side of a link in memory.
+abbrev pub sink_side : MemTalk → MemOutflow
+sink_side s = record { written = s.written; room = s.room; fails = s.fails; calls = s.calls; faults = s.write_faults }
+
+-- What a link in memory tells of what it gave: all of it.
+abbrev pub talk_intake : MemTalk → Intake
+talk_intake s = record { taken = Some s.taken; left = Some s.left; faults = s.read_faults }
+
+-- What a link in memory tells of what it took: all of it.
+abbrev pub talk_outflow : MemTalk → Outflow
+talk_outflow s = record { written = Some s.written; faults = s.write_faults }
+
+-- One read of a link in memory: that of a source in memory whose calls are numbered with the writes.
+pub record LinkReads (answer : Read) (buf : List ℕ) (old new : MemTalk) : Type 0 where
+  pub reads : MemReads answer buf (source_side old) (source_side new)
+  pub written : new.written ≡ old.written
+  pub room : new.room ≡ old.room
+  pub write_faults : new.write_faults ≡ old.write_faults
+
+-- One write to a link in memory: that to a sink in memory whose calls are numbered with the reads.
+pub record LinkWrites (answer : Wrote) (piece : List ℕ) (old new : MemTalk) : Type 0 where
+  pub writes : MemWrites answer piece (sink_side old) (sink_side new)
+  pub taken : new.taken ≡ old.taken
+  pub left : new.left ≡ old.left
+  pub piece_is : new.piece ≡ old.piece
+  pub read_faults : new.read_faults ≡ old.read_faults

@@ -2,7 +2,8 @@
 //!
 //! Everything above reads through `Source` and writes through `Sink`, and nothing above names a file, a socket or
 //! a terminal. A source tells what it has given and what it has left, a sink what it has taken, where they can;
-//! each counts its faults, and a call answers `Failed` only where that count rose in the call.
+//! each counts its faults, and a call answers `Failed` only where that count rose in the call. A `Link` is both, and
+//! neither side disturbs the other.
 //!
 //! The forms in memory tell all of that, and fail at the calls that they are told to; `PureSource` never fails. The
 //! adapters over std's reader and writer are the trusted edge: they tell their count of faults and no contents.
@@ -13,6 +14,8 @@
 mod calls;
 mod copies;
 pub mod laws;
+mod link;
+mod mem_link;
 mod mem_sink;
 mod mem_source;
 mod pure_source;
@@ -22,6 +25,8 @@ mod status;
 mod std_sink;
 mod std_source;
 
+pub use link::Link;
+pub use mem_link::MemLink;
 pub use mem_sink::MemSink;
 pub use mem_source::MemSource;
 pub use pure_source::PureSource;

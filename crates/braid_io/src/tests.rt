@@ -167,6 +167,82 @@ fn a_sink_in_memory_takes_what_it_has_room_for(rt: HostRuntime) -> Result<(), Fa
     Ok(())
 }
 
+/// A call of a link and its answer: a read of at most two bytes, or a write of `xyz`.
+#[derive(Clone, Copy)]
+enum Call {
+    Reads(Read),
+    Writes(Wrote),
+}
+
+#[test]
+fn a_link_in_memory_numbers_its_calls_together(rt: HostRuntime) -> Result<(), Fail> {
+    use Call::{Reads, Writes};
+    use Read::{End, Failed, Got};
+    use Wrote::{Failed as Refused, Took};
+    let rows: [(&[u64], &[Call], &[u8], &[u8], u64, u64); 3] = [
+        (
+            &[],
+            &[
+                Reads(Got(2)),
+                Writes(Took(3)),
+                Reads(Got(1)),
+                Writes(Took(1)),
+                Writes(Refused),
+                Reads(End),
+            ],
+            b"abc",
+            b"xyzx",
+            0,
+            1,
+        ),
+        (
+            &[0, 3],
+            &[
+                Reads(Failed),
+                Reads(Got(2)),
+                Writes(Took(3)),
+                Writes(Refused),
+                Reads(Got(1)),
+            ],
+            b"abc",
+            b"xyz",
+            1,
+            1,
+        ),
+        (
+            &[1, 2],
+            &[
+                Reads(Got(2)),
+                Writes(Refused),
+                Reads(Failed),
+                Writes(Took(3)),
+            ],
+            b"ab",
+            b"xyz",
+            1,
+            1,
+        ),
+    ];
+    for (fails, calls, taken, written, read_faults, write_faults) in rows {
+        let alloc = rt.alloc();
+        let left = Bytes::of(alloc, b"abc")?;
+        let mut link = MemLink::new(alloc, left, 2, 4, Vec::from_slice(alloc, fails)?)?;
+        for call in calls {
+            match call {
+                Reads(answer) => assert_eq!(rt; link.read(&mut [0u8; 3]), *answer),
+                Writes(answer) => assert_eq!(rt; link.write(b"xyz"), *answer),
+            }
+        }
+        assert_eq!(rt; link.taken(), taken);
+        assert_eq!(rt; link.left().len(), 3usize.saturating_sub(taken.len()));
+        assert_eq!(rt; link.written(), written);
+        assert_eq!(rt; link.calls(), calls.len() as u64);
+        assert_eq!(rt; link.read_faults(), read_faults);
+        assert_eq!(rt; link.write_faults(), write_faults);
+    }
+    Ok(())
+}
+
 #[test]
 fn a_source_that_never_fails_fills_the_buffer(rt: HostRuntime) -> Result<(), Fail> {
     use Read::{End, Got};
