@@ -1,5 +1,8 @@
 -- What contracts see of an update, and which parts make one.
 use Rattle.std.specs.Prelude.{◌≡◌, ℕ, ◌-◌, ◌^◌, ◌<◌, ◌≤◌, min, List, length, Some, None}
+use Rattle.std.specs.List.{AllByRecursion}
+use Rattle.braid_ids.specs.Identifiers.{IsIdentifier}
+use Rattle.braid_ids.specs.Frontiers.{IsRising}
 use Rattle.braid_change.specs.Changes.{patches_of, content_len, first_backwards, first_overlap, AreScalars, IsShaped}
 use Rattle.braid_change.specs.declared.change.Change.{Change}
 use Rattle.braid_change.specs.declared.update.BuildFault.{BuildFault}
@@ -16,6 +19,13 @@ pub record IsBuilt (parents : List (List ℕ)) (change : Change) : Type 0 where
   pub few_parents : length parents ≤ 32
   pub shaped : IsShaped change
   pub scalar : AreScalars change
+
+-- an update that the program can hold: an identifier, parents that are identifiers in rising order, and a change in its shape
+pub record IsUpdate (u : UpdateView) : Type 0 where
+  pub identifier : IsIdentifier u.id
+  pub identifiers : AllByRecursion IsIdentifier u.parents
+  pub rising : IsRising u.parents
+  pub built : IsBuilt u.parents u.change
 
 -- the fault of parts that make no update: the first of these, in this order
 abbrev pub IsBuildFault : List (List ℕ) → Change → BuildFault → Type 0

@@ -1,7 +1,7 @@
 ghost use Rattle.std.specs.Prelude.{◌≡◌, ◌-◌, ◌^◌, ◌<◌, ◌↔◌, min, length, List, IfOk, IfErr, IfSome, IsTrue};
 ghost use Rattle.std.specs.List.{position_from};
 ghost use Rattle.braid_change.specs.Changes.{patches_of, content_len, neighbours, do_overlap, first_backwards};
-ghost use Rattle.braid_change.specs.Updates.{UpdateView, IsBuilt, IsBuildFault};
+ghost use Rattle.braid_change.specs.Updates.{UpdateView, IsBuilt, IsUpdate, IsBuildFault};
 
 use crate::change::Change;
 use crate::patch::Patch;
@@ -24,13 +24,13 @@ pub struct Update {
 }
 
 impl Model for Update {
-    ghost use Rattle.braid_change.specs.Updates.{UpdateView, IsBuilt};
+    ghost use Rattle.braid_change.specs.Updates.{UpdateView, IsUpdate};
 
     ghost Value = { UpdateView };
 
     ghost view = { λ update. record { id = update.id; parents = update.parents; change = update.change } };
 
-    ghost invariant = { λ update. IsBuilt update.parents update.change };
+    ghost invariant = { λ update. IsUpdate (record { id = update.id; parents = update.parents; change = update.change }) };
 }
 
 /// Why parts make no update: the first of these that holds, in this order. Patches are numbered from 0.
@@ -56,6 +56,7 @@ impl Update {
     pub fn build(id: Id, parents: Frontier, change: Change) -> Result<Update, BuildFault>
         requires counted { length (patches_of change) < 2 ^ 32 }
         ensures ok { IfOk result (λ update. (update ≡ record { id = id; parents = parents; change = change }) × IsBuilt parents change) }
+        ensures valid { IfOk result (λ update. IsUpdate update) }
         ensures fault { IfErr result (λ fault. IsBuildFault parents change fault) }
     {
         let n = parents.len();
@@ -79,6 +80,8 @@ impl Update {
         if bytes > LONGEST_CONTENT {
             return Err(BuildFault::TooLong { bytes });
         }
+        // For its contract: the bytes are an identifier's.
+        id.bytes();
         Ok(Update {
             id,
             parents,
@@ -87,8 +90,11 @@ impl Update {
     }
 
     /// The identifier of the version. It takes no memory.
+    ///
+    /// Contracts learn here that the update is one that the program can hold.
     pub fn id(&self) -> &Id
         ensures value { result.now ≡ self.now.id }
+        ensures valid { IsUpdate self.now }
     {
         &self.id
     }

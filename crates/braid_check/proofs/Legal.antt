@@ -3,7 +3,7 @@ use Rattle.std.proofs.Common.{◌≡◌, ◌≢◌, ℕ, List, [], ◌∷◌, �
 use Rattle.std.specs.List.{Contains, AllByRecursion}
 use Rattle.std.proofs.lemmas.List.{length-map}
 use Rattle.braid_change.specs.Updates.{UpdateView}
-use Rattle.braid_grammar.specs.Held.{IsUpdate}
+use Rattle.braid_change.specs.Updates.{IsUpdate}
 use Rattle.braid_grammar.specs.Streams.{IsStream}
 use Rattle.braid_grammar.proofs.OneUpdate.{spelled_is_update}
 use Rattle.braid_text.specs.declared.accept.Accept.{Accept}

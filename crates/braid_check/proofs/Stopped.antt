@@ -8,7 +8,7 @@ use Rattle.braid_stream.specs.declared.next.Next.TheVariants.{Update, End, Torn,
 use Rattle.braid_stream.specs.declared.reading.Reading.{Reading}
 use Rattle.braid_stream.specs.Readers.{HasTaken, GoesOn, Answers, IsCause}
 use Rattle.braid_grammar.specs.Streams.{HaveUpdates}
-use Rattle.braid_grammar.specs.Held.{IsUpdate}
+use Rattle.braid_change.specs.Updates.{IsUpdate}
 use Rattle.braid_grammar.proofs.OneUpdate.{spelled_is_update}
 use Rattle.braid_stream.proofs.Moved.{moves_none, moves_more, moves_gives}
 use Rattle.braid_stream.proofs.Caused.{cause_after}

@@ -16,7 +16,7 @@ use Rattle.braid_fields.proofs.CanonicalHeads.{canonical_head, canonical_patch}
 use Rattle.braid_grammar.specs.Lines.{join}
 use Rattle.braid_grammar.specs.Readings.{patch_len}
 use Rattle.braid_grammar.specs.Streams.{IsGap, no_line, one_more, HoldsField, HoldFields, IsFields, IsHead, IsContent, SpellsPatch, SpellPatches, SpellsUpdate}
-use Rattle.braid_grammar.specs.Held.{IsUpdate}
+use Rattle.braid_change.specs.Updates.{IsUpdate}
 use Rattle.braid_grammar.proofs.FieldLines.{field_read}
 use Rattle.braid_grammar.proofs.Readers.{limit_is}
 use Rattle.braid_grammar.proofs.Lengths.{spelled_len, parents_len, number_len}

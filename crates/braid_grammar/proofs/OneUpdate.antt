@@ -13,7 +13,7 @@ use Rattle.braid_fields.specs.Limits.{IsAskedWithin}
 use Rattle.braid_grammar.specs.Outcomes.{Whole}
 use Rattle.braid_grammar.specs.Readings.{patch_len, next_at}
 use Rattle.braid_grammar.specs.Streams.{IsGap, no_line, IsContent, SpellPatches, SpellsChange, SpellsUpdate, IsStream}
-use Rattle.braid_grammar.specs.Held.{IsUpdate}
+use Rattle.braid_change.specs.Updates.{IsUpdate}
 use Rattle.braid_fields.proofs.PlanLimits.{head_within, patch_within}
 use Rattle.braid_grammar.proofs.Spelled.{spelled_next}
 use Rattle.braid_grammar.proofs.Canonical.{canonical_split}

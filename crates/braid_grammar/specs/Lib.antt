@@ -4,5 +4,4 @@ pub mod Outcomes
 pub mod Readings
 pub mod Streams
 pub mod FaultPlaces
-pub mod Held
 pub mod Readers

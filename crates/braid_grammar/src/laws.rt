@@ -8,7 +8,7 @@ ghost use Rattle.braid_grammar.specs.Outcomes.{Whole};
 ghost use Rattle.braid_grammar.specs.Readings.{next_at};
 ghost use Rattle.braid_grammar.specs.Streams.{IsGap, SpellsUpdate, IsStream, IsFault, Completes, IsTorn};
 ghost use Rattle.braid_grammar.specs.FaultPlaces.{IsWrongAt};
-ghost use Rattle.braid_grammar.specs.Held.{IsUpdate};
+ghost use Rattle.braid_change.specs.Updates.{IsUpdate};
 
 /// Bytes are a stream of one list of updates, or have a fault at one place for one reason, or neither. Where there is
 /// a fault, it is the fault of all bytes that go on from these, and none of them are a stream.

@@ -3,6 +3,7 @@ pub mod Members
 pub mod Ids
 pub mod Inserted
 pub mod Spelled
-pub mod Marked
+pub mod Ranges
+pub mod Flags
 pub mod Splits
 pub mod Named

@@ -2,4 +2,5 @@ pub mod Lists
 pub mod Identifiers
 pub mod Frontiers
 pub mod MarkSets
+pub mod Pieces
 pub mod Agents

@@ -1,6 +1,8 @@
 ghost use Rattle.std.specs.Prelude.{◌≡◌, ◌^◌, ◌<◌, ◌↔◌, List, ℕ, IfOk, IsTrue, Contains, length, vec_len, slice_get};
+ghost use Rattle.std.specs.List.{AllByRecursion};
 ghost use Rattle.std.specs.Option.{option_copied};
 ghost use Rattle.braid_ids.specs.Frontiers.{IsRising, IsFrontier};
+ghost use Rattle.braid_ids.specs.Identifiers.{IsIdentifier};
 ghost use Rattle.braid_ids.specs.declared.id.Id.{Id as Identifier};
 
 use crate::id::Id;
@@ -38,6 +40,7 @@ impl Frontier {
         let mut ids = ids;
         ids.sort()?;
         ids.dedup();
+        are_identifiers(&ids);
         Ok(Frontier { ids })
     }
 
@@ -74,5 +77,14 @@ impl Frontier {
             ids.push(id.copy(alloc)?)?;
         }
         Ok(Frontier { ids })
+    }
+}
+
+/// What the type of each of these says of its bytes. Nothing is done when it runs.
+fn are_identifiers(ids: &[Id])
+    ensures valid { AllByRecursion IsIdentifier ids.now }
+{
+    for id in ids {
+        id.bytes();
     }
 }

@@ -16,6 +16,7 @@ pub mod laws;
 mod list_bytes;
 mod marks;
 mod memory;
+mod piece;
 mod readers;
 mod unknown;
 mod word;

@@ -1,4 +1,4 @@
-use Rattle.std.proofs.Common.{◌≡◌, ◌∙◌, List, ℕ, Ok, Err, OnErr, Result, encode_utf8_all, subst}
+use Rattle.std.proofs.Common.{◌∙◌, List, ℕ, Ok, Err, OnErr, Result, encode_utf8_all, subst}
 use Rattle.braid_change.proofs.Written.{encoded_more, front_put}
 use Rattle.braid_change.specs.Texts.{PutsFront}
 use Rattle.braid_change.proofs.text.Text.push_to.Goals as goal

@@ -7,6 +7,7 @@ use Rattle.braid_ids.proofs.frontier.Frontier.of.Goals as goal
 pub invariant_of-result : goal.invariant_of-result
 invariant_of-result c =
     record {
+      identifiers = rw (← c.deref.ensures.value) c.are_identifiers.ensures.valid;
       rising = rw (dedup_is (pointwise nat_eq) _ _ c.dedup.ensures.filtered) (rising-dedup _ c.in_ok-sort.ensures.sorted);
       counted = omega (arith, c.dedup.ensures.bound, c.in_ok-sort.ensures.len, c.dedup.new.self.ok.0);
     }
