@@ -62,25 +62,25 @@ in_with low m [] n a r = (λ s. elim s [ inl w ↦ inr w | inr e ↦ absurd e ],
 in_with low m (p ∷ ps) n a r =
     elim (cases_lt p.to m.from) [
       | inl l ↦ subst (λ (t : List Piece). IsIn t n ↔ (IsIn (p ∷ ps) n ⊎ Within m n)) (sym (with_behind m p ps l)) (
-        let h = in_with (p.to + 1) m ps n a r.2 in (
-          λ s. elim s [ inl w ↦ inl (inl w) | inr k ↦ elim (h.0 k) [ inl i ↦ inl (inr i) | inr w ↦ inr w ] ],
-          λ s. elim s [ inl k ↦ elim k [ inl w ↦ inl w | inr i ↦ inr (h.1 (inl i)) ] | inr w ↦ inr (h.1 (inr w)) ],
-        )
-      )
+          let h = in_with (p.to + 1) m ps n a r.2 in (
+            λ s. elim s [ inl w ↦ inl (inl w) | inr k ↦ elim (h.0 k) [ inl i ↦ inl (inr i) | inr w ↦ inr w ] ],
+            λ s. elim s [ inl k ↦ elim k [ inl w ↦ inl w | inr i ↦ inr (h.1 (inl i)) ] | inr w ↦ inr (h.1 (inr w)) ],
+          )
+          )
       | inr g ↦ elim (cases_lt m.to p.from) [
         | inl l ↦ subst (λ (t : List Piece). IsIn t n ↔ (IsIn (p ∷ ps) n ⊎ Within m n)) (sym (with_before m p ps g l)) (
-          let h = in_with (p.to + 1) p ps n r.1 r.2 in (
-            λ s. elim s [ inl w ↦ inr w | inr k ↦ elim (h.0 k) [ inl i ↦ inl (inr i) | inr w ↦ inl (inl w) ] ],
-            λ s. elim s [ inl k ↦ elim k [ inl w ↦ inr (h.1 (inr w)) | inr i ↦ inr (h.1 (inl i)) ] | inr w ↦ inl w ],
-          )
-        )
+            let h = in_with (p.to + 1) p ps n r.1 r.2 in (
+              λ s. elim s [ inl w ↦ inr w | inr k ↦ elim (h.0 k) [ inl i ↦ inl (inr i) | inr w ↦ inl (inl w) ] ],
+              λ s. elim s [ inl k ↦ elim k [ inl w ↦ inr (h.1 (inr w)) | inr i ↦ inr (h.1 (inl i)) ] | inr w ↦ inl w ],
+            )
+            )
         | inr k ↦ subst (λ (t : List Piece). IsIn t n ↔ (IsIn (p ∷ ps) n ⊎ Within m n)) (sym (with_merged m p ps g k)) (
-          let h = in_with (p.to + 1) (merged m p) ps n (omega (arith, r.1)) r.2 in
-          let both = in_merged m p n a r.1 g k in (
-            λ s. elim (h.0 s) [ inl i ↦ inl (inr i) | inr w ↦ elim (both.0 w) [ inl v ↦ inl (inl v) | inr v ↦ inr v ] ],
-            λ s. elim s [ inl j ↦ elim j [ inl w ↦ h.1 (inr (both.1 (inl w))) | inr i ↦ h.1 (inl i) ] | inr w ↦ h.1 (inr (both.1 (inr w))) ],
-          )
-        )
+            let h = in_with (p.to + 1) (merged m p) ps n (omega (arith, r.1)) r.2 in
+            let both = in_merged m p n a r.1 g k in (
+              λ s. elim (h.0 s) [ inl i ↦ inl (inr i) | inr w ↦ elim (both.0 w) [ inl v ↦ inl (inl v) | inr v ↦ inr v ] ],
+              λ s. elim s [ inl j ↦ elim j [ inl w ↦ h.1 (inr (both.1 (inl w))) | inr i ↦ h.1 (inl i) ] | inr w ↦ h.1 (inr (both.1 (inr w))) ],
+            )
+            )
       ]
     ]
 
