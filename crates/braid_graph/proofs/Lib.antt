@@ -11,4 +11,8 @@ pub mod Marked
 pub mod Unheld
 pub mod Orders
 pub mod Widths
+pub mod Runs
+pub mod RunsKept
+pub mod Fronts
+pub mod RunPieces
 pub mod Whole

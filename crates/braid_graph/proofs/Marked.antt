@@ -1,18 +1,16 @@
 -- What the walk over arrival numbers has marked.
-use Rattle.std.proofs.Common.{◌≡◌, ◌↔◌, ℕ, ◌+◌, ◌<◌, ◌≤◌, List, [], ◌∷◌, ◌++◌, Bool, false, length, max, take, replicate, get_or, slice_get, Some, zero, suc, arith, refl, sym, ap, subst, ◌∙◌, inl, inr, ◌⊎◌}
+use Rattle.std.proofs.Common.{◌≡◌, ◌↔◌, ℕ, ◌+◌, ◌<◌, ◌≤◌, List, [], ◌∷◌, Bool, length, take, get_or, slice_get, Some, zero, suc, arith, refl, sym, subst, ◌∙◌, inl, inr}
 use Rattle.std.specs.List.{Contains, AllZip}
-use Rattle.std.proofs.lemmas.Bool.{cases_eq}
 use Rattle.std.proofs.lemmas.Option.{none-some, same_Some, slice_get_within, slice_get_read}
-use Rattle.std.proofs.lemmas.List.{take_all, length-replicate}
-use Rattle.std.proofs.lemmas.List.Elements.{Contains-get_or, Contains-append_left, Contains-push, Contains-push_cases}
+use Rattle.std.proofs.lemmas.List.{take_all}
+use Rattle.std.proofs.lemmas.List.Elements.{Contains-get_or, Contains-push_cases}
 use Rattle.braid_ids.specs.MarkSets.{IsMarked}
 use Rattle.braid_graph.specs.Entries.{GraphEntry, ids_of, Holds, HoldsAll, IsHistoryGraph}
-use Rattle.braid_graph.specs.Ancestries.{IsAncestor, named, parent, Covers, MarksAncestry}
-use Rattle.braid_graph.specs.Inside.{IsNumberOf, IsLinked, IsKept, IsParentNumber, MarksMembers, AllMarked}
+use Rattle.braid_graph.specs.Ancestries.{IsAncestor, Covers, MarksAncestry}
+use Rattle.braid_graph.specs.Inside.{IsNumberOf, IsLinked, IsKept, IsParentNumber, AllMarked}
 use Rattle.braid_graph.specs.declared.links.Links.{Links}
-use Rattle.braid_ids.proofs.Members.{Member, contains_member, member_contains, member_at, place_of}
-use Rattle.braid_graph.proofs.Newest.{id_at, entry_at, one_number}
-use Rattle.braid_graph.proofs.Walk.{least}
+use Rattle.braid_ids.proofs.Members.{Member, contains_member, member_contains, place_of}
+use Rattle.braid_graph.proofs.Newest.{entry_at, one_number}
 use Rattle.braid_graph.proofs.Kept.{take_next, zip_at, zip_length}
 
 -- a held identifier has a number
@@ -40,115 +38,6 @@ parent_before es h n m (e, v, at, c, is) =
     short zero es = omega arith
     short (suc k) [] = omega arith
     short (suc k) (d ∷ es) = let s = short k es in omega arith
-
--- the walk from the numbers at `end` and above: it has the members, the parents of what it marked there, and nothing but the ancestry
-pub record IsWalked (es : List GraphEntry) (F : List (List ℕ)) (end : ℕ) (marks : List Bool) : Type 0 where
-  pub size : length marks ≡ length es
-  pub members : AllMarked es F marks
-  pub closed : (n m : ℕ) → end ≤ n → IsMarked marks n → IsParentNumber es n m → IsMarked marks m
-  pub within : (n : ℕ) (v : List ℕ) → IsNumberOf es v n → IsMarked marks n → IsAncestor es F v
-
-pub walk_begun : (es : List GraphEntry) (F : List (List ℕ)) (end : ℕ) (marks : List Bool) → MarksMembers es F end marks → IsWalked es F end marks
-walk_begun es F end marks has = record {
-  size = has.size;
-  members = λ n v at c. (has.exact n v at).1 c;
-  closed = λ n m l marked is. absurd (let b = has.below n marked in omega arith);
-  within = λ n v at marked. named v ((has.exact n v at).0 marked);
-}
-
-pub walk_passes : (es : List GraphEntry) (F : List (List ℕ)) (end n : ℕ) (marks : List Bool) → end ≡ n + 1 → IsWalked es F end marks → (IsMarked marks n → ⊥) → IsWalked es F n marks
-walk_passes es F end n marks e w not_here = record {
-  size = w.size;
-  members = w.members;
-  closed = λ k m l marked is. elim (cases_eq k n) [
-    | inl same ↦ absurd (not_here (subst (IsMarked marks) same marked))
-    | inr other ↦ w.closed k m (omega arith) marked is
-  ];
-  within = w.within;
-}
-
-pub walk_marks : (es : List GraphEntry) (F : List (List ℕ)) (end n : ℕ) (old new : List Bool) → IsHistoryGraph es → end ≡ n + 1 → IsWalked es F end old → IsMarked old n → length new ≡ length old
-    → ((m : ℕ) → IsMarked new m ↔ (IsMarked old m ⊎ IsParentNumber es n m)) → IsWalked es F n new
-walk_marks es F end n old new h e w here size more = record {
-  size = size ∙ w.size;
-  members = λ m v at c. (more m).1 (inl (w.members m v at c));
-  closed = λ k m l marked is. elim ((more k).0 marked) [
-    | inl before ↦ elim (cases_eq k n) [
-      | inl same ↦ (more m).1 (inr (subst (λ (t : ℕ). IsParentNumber es t m) same is))
-      | inr other ↦ (more m).1 (inl (w.closed k m (omega arith) before is))
-    ]
-    | inr later ↦ absurd (let b = parent_before es h n k later in omega arith)
-  ];
-  within = λ m v at marked. elim ((more m).0 marked) [
-    | inl before ↦ w.within m v at before
-    | inr is ↦ step m v at is
-  ];
-}
-  where
-    step : (m : ℕ) (v : List ℕ) → IsNumberOf es v m → IsParentNumber es n m → IsAncestor es F v
-    step m v at (d, p, there, c, is) =
-        let same : p ≡ v = same_Some p v (sym is ∙ at) in
-        parent d v (member_contains es d (member_at es n d there)) (w.within n d.id (id_at es n d there) here) (subst (Contains d.parents) same c)
-
-pub walk_done : (es : List GraphEntry) (F : List (List ℕ)) (marks : List Bool) → IsHistoryGraph es → HoldsAll es F → IsWalked es F 0 marks → MarksAncestry es F marks
-walk_done es F marks h held w = record {
-  held = held;
-  size = w.size;
-  exact = λ n e at. (
-    λ marked. w.within n e.id (id_at es n e at) marked,
-    λ a. least es F (λ (v : List ℕ). (k : ℕ) → IsNumberOf es v k → IsMarked marks k) (λ v c k is. w.members k v is c) parents e.id a n (id_at es n e at),
-  );
-}
-  where
-    parents : (d : GraphEntry) (v : List ℕ) → Contains es d → ((k : ℕ) → IsNumberOf es d.id k → IsMarked marks k) → Contains d.parents v → (k : ℕ) → IsNumberOf es v k → IsMarked marks k
-    parents d v c all p k is = let r = place_of es d (contains_member es d c) in w.closed r.0 k (omega arith) (all r.0 (id_at es r.0 d r.1)) (d, v, r.1, p, is)
-
--- the members, one more
-blank_at : (k n : ℕ) → IsMarked (replicate k false) n → ⊥
-blank_at zero n h = cc
-blank_at (suc k) zero h = cc
-blank_at (suc k) (suc n) h = blank_at k n h
-
-pub members_none : (es : List GraphEntry) (F : List (List ℕ)) (marks : List Bool) → marks ≡ replicate (length es) false → MarksMembers es (take 0 F) 0 marks
-members_none es F marks blank = record {
-  size = ap length blank ∙ length-replicate (length es) false;
-  within = omega arith;
-  below = λ n marked. absurd (none n marked);
-  exact = λ n v at. (λ marked. absurd (none n marked), λ c. absurd (contains_member [] v c));
-}
-  where
-    none : (n : ℕ) → IsMarked marks n → ⊥
-    none n marked = blank_at (length es) n (subst (λ (t : List Bool). IsMarked t n) blank marked)
-
-pub members_next : (es : List GraphEntry) (F : List (List ℕ)) (i end n last : ℕ) (id : List ℕ) (old new : List Bool) → IsHistoryGraph es → MarksMembers es (take i F) end old → slice_get F i ≡ Some id → IsNumberOf es id n → length new ≡ length old
-    → ((m : ℕ) → IsMarked new m ↔ (IsMarked old m ⊎ ((n ≤ m) × (m < n + 1)))) → last ≡ max end (n + 1) → MarksMembers es (take (i + 1) F) last new
-members_next es F i end n last id old new h has at is size more top = record {
-  size = size ∙ has.size;
-  within = let w = number_within es id n is in omega (arith, has.within);
-  below = λ m marked. elim ((more m).0 marked) [
-    | inl before ↦ let b = has.below m before in omega arith
-    | inr here ↦ omega arith
-  ];
-  exact = λ m v place. (
-    λ marked. subst (λ (t : List (List ℕ)). Contains t v) (sym next) (elim ((more m).0 marked) [
-      | inl before ↦ Contains-append_left (take i F) (id ∷ []) v ((has.exact m v place).0 before)
-      | inr here ↦
-          let number : m ≡ n = omega arith in
-          let same : id ≡ v = same_Some id v (sym is ∙ subst (λ (k : ℕ). IsNumberOf es v k) number place) in
-          subst (Contains (take i F ++ id ∷ [])) same (Contains-push (take i F) id)
-    ]),
-    λ c. elim (Contains-push_cases (take i F) id v (subst (λ (t : List (List ℕ)). Contains t v) next c)) [
-      | inl before ↦ (more m).1 (inl ((has.exact m v place).1 before))
-      | inr same ↦ let number : m ≡ n = one_number es h v m n place (subst (λ (t : List ℕ). IsNumberOf es t n) same is) in (more m).1 (inr (omega arith, omega arith))
-    ],
-  );
-}
-  where
-    next : take (i + 1) F ≡ take i F ++ id ∷ []
-    next = take_next F i id at
-
-pub members_all : (es : List GraphEntry) (F : List (List ℕ)) (i end : ℕ) (marks : List Bool) → length F ≤ i → MarksMembers es (take i F) end marks → MarksMembers es F end marks
-members_all es F i end marks l has = subst (λ (t : List (List ℕ)). MarksMembers es t end marks) (take_all i F l) has
 
 -- the numbers that are kept for an entry are its parents'
 zip_right : {A B : Type 0} (R : A → B → Type 0) (xs : List A) (ys : List B) → AllZip R xs ys → (y : B) → Member y ys → (x : A) × Member x xs × R x y
@@ -186,32 +75,6 @@ parent_numbers es links n k h z l at m = go (entry_within es n l)
 pub parent_number_within : (es : List GraphEntry) (n m : ℕ) → IsParentNumber es n m → m < length es
 parent_number_within es n m (e, v, at, c, is) = number_within es v m is
 
--- one more parent's number
-pub marks_next : (ns : List ℕ) (i p : ℕ) (first old new : List Bool) → slice_get ns i ≡ Some p → ((m : ℕ) → IsMarked old m ↔ (IsMarked first m ⊎ Contains (take i ns) m)) → ((m : ℕ) → IsMarked new m ↔ (IsMarked old m ⊎ ((p ≤ m) × (m < p + 1))))
-    → (m : ℕ) → IsMarked new m ↔ (IsMarked first m ⊎ Contains (take (i + 1) ns) m)
-marks_next ns i p first old new at so_far more m = (
-  λ marked. elim ((more m).0 marked) [
-    | inl before ↦ elim ((so_far m).0 before) [
-      | inl f ↦ inl f
-      | inr c ↦ inr (subst (λ (t : List ℕ). Contains t m) (sym next) (Contains-append_left (take i ns) (p ∷ []) m c))
-    ]
-    | inr here ↦ let same : p ≡ m = omega arith in inr (subst (λ (t : List ℕ). Contains t m) (sym next) (subst (Contains (take i ns ++ p ∷ [])) same (Contains-push (take i ns) p)))
-  ],
-  λ s. elim s [
-    | inl f ↦ (more m).1 (inl ((so_far m).1 (inl f)))
-    | inr c ↦ elim (Contains-push_cases (take i ns) p m (subst (λ (t : List ℕ). Contains t m) next c)) [
-      | inl before ↦ (more m).1 (inl ((so_far m).1 (inr before)))
-      | inr same ↦ (more m).1 (inr (omega arith, omega arith))
-    ]
-  ],
-)
-  where
-    next : take (i + 1) ns ≡ take i ns ++ p ∷ []
-    next = take_next ns i p at
-
-pub marks_none : (ns : List ℕ) (marks : List Bool) (m : ℕ) → IsMarked marks m ↔ (IsMarked marks m ⊎ Contains (take 0 ns) m)
-marks_none ns marks m = (λ h. inl h, λ s. elim s [ inl h ↦ h | inr c ↦ absurd (contains_member [] m c) ])
-
 -- whether all are marked, one more
 pub all_marked_none : (es : List GraphEntry) (F : List (List ℕ)) (marks : List Bool) → AllMarked es (take 0 F) marks
 all_marked_none es F marks n v at c = absurd (contains_member [] v c)
@@ -246,12 +109,3 @@ parents_kept es own links flags n k view kept l at =
 pub parent_small : (es own : List GraphEntry) (links : List Links) (flags : List Bool) (n : ℕ) (k : Links) (ns : List ℕ) (i : ℕ) → own ≡ es → IsKept own links flags → n < length es → k ≡ get_or links n k → ns ≡ k.parents.items → i < length ns → get_or ns i 0 < length es
 parent_small es own links flags n k ns i view kept l at same within =
     parent_number_within es n (get_or ns i 0) ((parents_kept es own links flags n k view kept l at (get_or ns i 0)).0 (subst (λ (t : List ℕ). Contains t (get_or ns i 0)) same (Contains-get_or ns i 0 within)))
-
-pub marks_all : (es own : List GraphEntry) (links : List Links) (flags : List Bool) (n : ℕ) (k : Links) (ns : List ℕ) (i : ℕ) (first marks : List Bool) → own ≡ es → IsKept own links flags → n < length es → k ≡ get_or links n k → ns ≡ k.parents.items → length ns ≤ i
-    → ((m : ℕ) → IsMarked marks m ↔ (IsMarked first m ⊎ Contains (take i ns) m)) → (m : ℕ) → IsMarked marks m ↔ (IsMarked first m ⊎ IsParentNumber es n m)
-marks_all es own links flags n k ns i first marks view kept l at same long so_far m =
-    let is = parents_kept es own links flags n k view kept l at m in
-    let all : take i ns ≡ k.parents.items = take_all i ns long ∙ same in (
-      λ marked. elim ((so_far m).0 marked) [ inl f ↦ inl f | inr c ↦ inr (is.0 (subst (λ (t : List ℕ). Contains t m) all c)) ],
-      λ s. elim s [ inl f ↦ (so_far m).1 (inl f) | inr p ↦ (so_far m).1 (inr (subst (λ (t : List ℕ). Contains t m) (sym all) (is.1 p))) ],
-    )

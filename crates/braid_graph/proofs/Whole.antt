@@ -1,6 +1,6 @@
 -- Where all heads are among the members of a frontier, its ancestry is the whole graph.
 use Rattle.std.specs.Prelude.{Result, Ok, Err, IfOk}
-use Rattle.std.proofs.Common.{◌≡◌, ℕ, ◌+◌, ◌<◌, ◌≤◌, List, [], ◌∷◌, Bool, true, false, not, length, slice_get, Some, zero, suc, arith, refl, sym, ap, ◌∙◌, inl, inr}
+use Rattle.std.proofs.Common.{◌≡◌, ℕ, ◌+◌, ◌<◌, ◌≤◌, List, Bool, true, false, not, length, zero, suc, arith, refl, ap}
 use Rattle.std.specs.List.{Contains, filter}
 use Rattle.std.proofs.lemmas.Option.{slice_get_within}
 use Rattle.braid_ids.specs.Frontiers.{IsRising}

@@ -1,17 +1,17 @@
-ghost use Rattle.std.specs.Prelude.{◌≡◌, ◌<◌, ◌≤◌, ◌++◌, ◌∷◌, ◌+◌, ◌↔◌, ◌⊎◌, [], List, ℕ, Some, false, filter, length, replicate, reverse, slice_get, Contains, IfOk, IfErr, OnOk, OnErr, IfSome, IfNone, IsTrue, vec_len};
+ghost use Rattle.std.specs.Prelude.{◌≡◌, ◌<◌, ◌≤◌, ◌++◌, ◌∷◌, ◌+◌, [], List, ℕ, Some, filter, length, reverse, slice_get, IfOk, OnOk, OnErr, IfSome, IfNone, vec_len, vec_capacity};
 ghost use Rattle.std.specs.List.{AllZip};
 ghost use Rattle.std.specs.Option.{option_map, option_copied};
 ghost use Rattle.braid_ids.specs.Frontiers.{IsRising};
-ghost use Rattle.braid_ids.specs.MarkSets.{IsMarked};
 ghost use Rattle.braid_graph.specs.Entries.{GraphEntry, ids_of, Holds, HoldsAll, IsHistoryGraph};
-ghost use Rattle.braid_graph.specs.Ancestries.{Covers, MarksAncestry, IsLeastUnheld, IsUnknown, NamesUnknown};
+ghost use Rattle.braid_graph.specs.Ancestries.{IsLeastUnheld};
 ghost use Rattle.braid_graph.specs.Levels.{greatest_by, level_of};
 ghost use Rattle.braid_graph.specs.Frontiers.{IsFrontierOf, frontier_of, heads_of, is_head};
-ghost use Rattle.braid_graph.specs.Inside.{IsNumberOf, IsParentNumber, MarksMembers, AllMarked, IsLeastOf, lesser_of};
+ghost use Rattle.braid_graph.specs.Runs.{runs_of};
+ghost use Rattle.braid_graph.specs.Inside.{IsNumberOf, IsLeastOf, IsRunAfter, begun, lesser_of};
 
 use crate::heads::Heads;
 use crate::links::Links;
-use braid_ids::{Frontier, Id, Marks, Memory, Unknown};
+use braid_ids::{Frontier, Id, Memory};
 use indexmap::IndexMap;
 use std::alloc::Global;
 use std::marker::Model;
@@ -19,22 +19,23 @@ use std::marker::Model;
 /// A version graph: versions with their parents, in order of arrival, each parent before its children.
 #[derive(Drop)]
 pub struct Graph {
-    entries: IndexMap<Id, Frontier>,
-    links: Vec<Links>,
+    pub(crate) entries: IndexMap<Id, Frontier>,
+    pub(crate) links: Vec<Links>,
     heads: Heads,
+    pub(crate) starts: Vec<u32>,
     alloc: Global,
 }
 
 impl Model for Graph {
     ghost use Rattle.std.specs.Prelude.{List};
     ghost use Rattle.braid_graph.specs.Entries.{GraphEntry};
-    ghost use Rattle.braid_graph.specs.Inside.{entries_in, IsKept};
+    ghost use Rattle.braid_graph.specs.Inside.{entries_in, IsWhole};
 
     ghost Value = { List GraphEntry };
 
     ghost view = { λ graph. entries_in graph.entries.entries };
 
-    ghost invariant = { λ graph. IsKept (entries_in graph.entries.entries) graph.links.items graph.heads };
+    ghost invariant = { λ graph. IsWhole (entries_in graph.entries.entries) graph.links.items graph.heads graph.starts.items };
 }
 
 impl Graph {
@@ -46,6 +47,7 @@ impl Graph {
             entries: IndexMap::new(alloc),
             links: Vec::new(alloc),
             heads: Heads::new(alloc),
+            starts: Vec::new(alloc),
             alloc,
         }
     }
@@ -65,8 +67,10 @@ impl Graph {
         let links = self.links_to(&parents)?;
         self.entries.reserve(1)?;
         self.links.reserve(1)?;
+        self.starts.reserve(1)?;
         self.heads.add()?;
         // From here on nothing can fail.
+        begin_run(&mut self.starts, links.run, number);
         self.heads.clear_all(&links.parents);
         let Ok(_) = self.links.push(links) else {
             unreachable!()
@@ -77,11 +81,12 @@ impl Graph {
         Ok(number)
     }
 
-    /// The parents of a new entry by their numbers, and its level.
+    /// The parents of a new entry by their numbers, its level, and the number of its run.
     fn links_to(&self, parents: &Frontier) -> Result<Links, Memory>
         requires held { HoldsAll self.now parents.now }
         ensures level { IfOk result (λ links. links.level ≡ 1 + greatest_by (level_of self.now) parents.now) }
         ensures parents { IfOk result (λ links. AllZip (IsNumberOf self.now) parents.now links.parents.items) }
+        ensures run { IfOk result (λ links. IsRunAfter self.now parents.now links.run) }
     {
         let mut numbers = Vec::with_capacity(self.alloc, parents.len() as usize)?;
         let mut greatest = 0;
@@ -95,10 +100,34 @@ impl Graph {
             numbers.push(n)?;
             greatest = greatest.max(self.level(n));
         }
+        let run = self.run_after(&numbers);
         Ok(Links {
             parents: numbers,
             level: greatest + 1,
+            run,
         })
+    }
+
+    /// The number of the run of a new entry whose parents have these numbers: the last, where the newest entry is the
+    /// one parent, and else a new one.
+    fn run_after(&self, parents: &[u32]) -> u32
+        ensures run { (ps : List (List ℕ)) → AllZip (IsNumberOf self.now) ps parents.now → IsRunAfter self.now ps result }
+    {
+        let runs = self.starts.len() as u32;
+        if parents.len() != 1 {
+            return runs;
+        }
+        if parents[0] as usize + 1 != self.entries.len() {
+            return runs;
+        }
+        runs - 1
+    }
+
+    /// How many runs there are: entries whose parents are not the one entry before them. It takes no memory.
+    pub fn runs(&self) -> u32
+        ensures runs { result ≡ runs_of self.now }
+    {
+        self.starts.len() as u32
     }
 
     /// The arrival number of the entry with this identifier, counted from 0. It takes no memory.
@@ -152,7 +181,7 @@ impl Graph {
     }
 
     /// How many of these identifiers are no entry's parent.
-    fn heads_among(&self, of: &Frontier) -> u32
+    pub(crate) fn heads_among(&self, of: &Frontier) -> u32
         requires held { HoldsAll self.now of.now }
         ensures count { result ≡ length (filter (is_head self.now) of.now) }
         ensures rising { IsRising of.now }
@@ -202,43 +231,6 @@ impl Graph {
         Ok(ids)
     }
 
-    /// The arrival numbers of the ancestry of a frontier: of its members, their parents, their parents' parents and so on.
-    ///
-    /// It takes time linear in the entries and their parents.
-    ///
-    /// Errors: `Unknown::Id` where a member of the frontier is not held, with the least that is not; `Unknown::Memory`
-    /// where there was none.
-    pub fn ancestry(&self, alloc: Global, of: &Frontier) -> Result<Marks, Unknown>
-        ensures ok { IfOk result (λ marks. MarksAncestry self.now of.now marks) }
-        ensures fault { IfErr result (λ unknown. IsUnknown self.now of.now unknown) }
-    {
-        if let Some(id) = self.least_unheld(of) {
-            return Err(unknown(alloc, id));
-        }
-        match self.marked(alloc, of) {
-            Ok(marks) => Ok(marks),
-            Err(_) => Err(Unknown::Memory),
-        }
-    }
-
-    /// Whether each member of `lower` is in the ancestry of `upper`.
-    ///
-    /// Errors: `Unknown::Id` where a member of either is not held, with the least of both that is not;
-    /// `Unknown::Memory` where there was none.
-    pub fn covers(&self, alloc: Global, upper: &Frontier, lower: &Frontier) -> Result<bool, Unknown>
-        ensures held { OnOk result (HoldsAll self.now (upper.now ++ lower.now)) }
-        ensures ok { IfOk result (λ covered. IsTrue covered ↔ Covers self.now upper.now lower.now) }
-        ensures fault { IfErr result (λ unknown. IsUnknown self.now (upper.now ++ lower.now) unknown) }
-    {
-        if let Some(id) = self.least_unheld_of_both(upper, lower) {
-            return Err(unknown(alloc, id));
-        }
-        match self.marked(alloc, upper) {
-            Ok(marks) => Ok(self.all_marked(lower, &marks)),
-            Err(_) => Err(Unknown::Memory),
-        }
-    }
-
     /// The least member of a frontier that no entry has, or `None` where all members are held. It takes no memory.
     pub fn least_unheld<'a>(&self, of: &'a Frontier) -> Option<&'a Id>
         ensures found { IfSome result (λ id. IsLeastUnheld self.now of.now id.now) }
@@ -255,106 +247,17 @@ impl Graph {
     }
 
     /// The least identifier of two frontiers that no entry has.
-    fn least_unheld_of_both<'a>(&self, one: &'a Frontier, other: &'a Frontier) -> Option<&'a Id>
+    pub(crate) fn least_unheld_of_both<'a>(
+        &self,
+        one: &'a Frontier,
+        other: &'a Frontier,
+    ) -> Option<&'a Id>
         ensures least { IsLeastOf self.now (one.now ++ other.now) (option_copied result) }
     {
         match (self.least_unheld(one), self.least_unheld(other)) {
             (least, Some(id)) => Some(lesser(least, id)),
             (least, None) => least,
         }
-    }
-
-    /// The arrival numbers of the ancestry of a frontier whose members are held.
-    ///
-    /// Where all heads are among the members, that is each number.
-    fn marked(&self, alloc: Global, of: &Frontier) -> Result<Marks, Memory>
-        requires held { HoldsAll self.now of.now }
-        ensures ok { IfOk result (λ marks. MarksAncestry self.now of.now marks) }
-    {
-        if self.heads_among(of) == self.width() {
-            return self.all_numbers(alloc);
-        }
-        self.walked(alloc, of)
-    }
-
-    /// Each arrival number.
-    fn all_numbers(&self, alloc: Global) -> Result<Marks, Memory>
-        ensures size { IfOk result (λ marks. length marks ≡ length self.now) }
-        ensures ok { IfOk result (λ marks. (n : ℕ) → n < length self.now → IsMarked marks n) }
-    {
-        let size = self.entries.len() as u32;
-        let mut marks = Marks::of(alloc, size)?;
-        if size > 0 {
-            marks.add(0, size)?;
-        }
-        Ok(marks)
-    }
-
-    /// The same by a walk over the entries.
-    ///
-    /// A parent's number is below its child's: so one pass from the greatest number to the least finds all,
-    /// and the marks themselves are the list of what is left to do.
-    fn walked(&self, alloc: Global, of: &Frontier) -> Result<Marks, Memory>
-        requires held { HoldsAll self.now of.now }
-        ensures ok { IfOk result (λ marks. MarksAncestry self.now of.now marks) }
-    {
-        let mut marks = Marks::of(alloc, self.entries.len() as u32)?;
-        let end = self.mark_members(of, &mut marks)?;
-        for n in (0..end).rev() {
-            if !marks.has(n) {
-                continue;
-            }
-            self.mark_parents(n, &mut marks)?;
-        }
-        Ok(marks)
-    }
-
-    /// Marks the numbers of held identifiers, and answers a number that is above them all.
-    fn mark_members(&self, of: &Frontier, marks: &mut Marks) -> Result<u32, Memory>
-        requires held { HoldsAll self.now of.now }
-        requires blank { marks.old ≡ replicate (length self.now) false }
-        ensures ok { IfOk result (λ end. MarksMembers self.now of.now end marks.new) }
-    {
-        let mut end = 0;
-        for i in 0..of.len() {
-            let Some(id) = of.get(i) else { unreachable!() };
-            let Some(n) = self.index_of(id) else {
-                unreachable!()
-            };
-            marks.add(n, n + 1)?;
-            end = end.max(n + 1);
-        }
-        Ok(end)
-    }
-
-    /// Marks the numbers of an entry's parents.
-    fn mark_parents(&self, n: u32, marks: &mut Marks) -> Result<(), Memory>
-        requires within { n < length self.now }
-        requires size { length marks.old ≡ length self.now }
-        ensures size { length marks.new ≡ length marks.old }
-        ensures ok { OnOk result ((m : ℕ) → IsMarked marks.new m ↔ (IsMarked marks.old m ⊎ IsParentNumber self.now n m)) }
-    {
-        for parent in &self.links[n as usize].parents {
-            marks.add(*parent, *parent + 1)?;
-        }
-        Ok(())
-    }
-
-    /// Whether the numbers of all of these identifiers are marked.
-    fn all_marked(&self, of: &Frontier, marks: &Marks) -> bool
-        requires held { HoldsAll self.now of.now }
-        ensures all { IsTrue result ↔ AllMarked self.now of.now marks.now }
-    {
-        for i in 0..of.len() {
-            let Some(id) = of.get(i) else { unreachable!() };
-            let Some(n) = self.index_of(id) else {
-                unreachable!()
-            };
-            if !marks.has(n) {
-                return false;
-            }
-        }
-        true
     }
 }
 
@@ -368,12 +271,14 @@ fn lesser<'a>(least: Option<&'a Id>, id: &'a Id) -> &'a Id
     }
 }
 
-/// The answer that names an identifier which no entry has.
-fn unknown(alloc: Global, id: &Id) -> Unknown
-    ensures names { NamesUnknown result id.now }
+/// Notes that a run begins at this number, where it is a new run's first. There is room for it.
+fn begin_run(starts: &mut Vec<u32>, run: u32, number: u32)
+    requires room { vec_len starts.old < vec_capacity starts.old }
+    ensures begun { starts.new.items ≡ begun starts.old.items run number }
 {
-    match id.copy(alloc) {
-        Ok(id) => Unknown::Id { id },
-        Err(_) => Unknown::Memory,
+    if run as usize == starts.len() {
+        let Ok(_) = starts.push(number) else {
+            unreachable!()
+        };
     }
 }

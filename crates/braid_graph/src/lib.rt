@@ -6,10 +6,13 @@
 //! member. None of them depends on the order of arrival. Versions with parents are those of
 //! draft-toomim-httpbis-braid-http-04.
 //!
-//! An identifier is found in expected constant time, an ancestry in time linear in the entries and their parents.
+//! An identifier is found in expected constant time. Entries one after the other, of which each but the first has the one
+//! before it as its only parent, are a run; an ancestry is found in time linear in the runs and the parents of their first
+//! entries, and that of the newest frontier in time linear in the frontier.
 //! Nothing here knows what a version changes, and nothing is ever taken out of a graph.
 #![tactic(auto)]
 
+mod ancestry;
 mod graph;
 mod heads;
 pub mod laws;

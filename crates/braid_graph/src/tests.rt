@@ -284,12 +284,8 @@ fn check_chain(alloc: Global, graph: &Graph) -> Result<(), Fail> {
     let Ok(marks) = graph.ancestry(alloc, &newest) else {
         return Err("no ancestry".into());
     };
-    for n in 0..100_000 {
-        if !marks.has(n) {
-            return Err("an ancestor is left out".into());
-        }
-    }
-    check(marks.size() == 100_000, "the size")
+    check(marks.is_full() && marks.size() == 100_000, "the ancestry")?;
+    check(marks.pieces() == 1 && graph.runs() == 1, "the ranges")
 }
 
 #[test]
@@ -297,4 +293,63 @@ fn a_long_chain_is_walked_to_its_root(rt: HostRuntime) -> Result<(), Fail> {
     let mut graph = Graph::new(rt.alloc());
     put_chain(rt.alloc(), &mut graph)?;
     check_chain(rt.alloc(), &graph)
+}
+
+/// Five versions, each on the one before it.
+const CHAIN: &str = "a-1|\na-2|a-1\na-3|a-2\na-4|a-3\na-5|a-4";
+
+/// Two writers who do not see one another.
+const COMB: &str = "a-1|\nb-1|\na-2|a-1\nb-2|b-1";
+
+/// A fork and its join.
+const DIAMOND: &str = "a-1|\nb-1|a-1\nc-1|a-1\nd-1|b-1 c-1";
+
+/// The graph of lines with a name and, behind the bar, its parents.
+fn grown(alloc: Global, lines: &str) -> Result<Graph, Fail> {
+    let mut graph = Graph::new(alloc);
+    for line in lines.lines() {
+        let Some((name, parents)) = line.split_once('|') else {
+            return Err("not two parts".into());
+        };
+        put(alloc, &mut graph, name, parents)?;
+    }
+    Ok(graph)
+}
+
+/// Whether the graph of these lines has this many runs, and the ancestry of a frontier these members in so many ranges.
+fn check_ranges(
+    alloc: Global,
+    lines: &str,
+    runs: u32,
+    of: &str,
+    digits: &str,
+    pieces: u32,
+) -> Result<(), Fail> {
+    let graph = grown(alloc, lines)?;
+    check(graph.runs() == runs, "the runs")?;
+    check(is_ancestry(alloc, &graph, of, digits)?, "the ancestry")?;
+    let of = frontier_of(alloc, of)?;
+    let Ok(marks) = graph.ancestry(alloc, &of) else {
+        return Err("no ancestry".into());
+    };
+    check(marks.pieces() == pieces, "the ranges")
+}
+
+#[test]
+fn an_ancestry_has_a_range_for_each_front_of_runs(rt: HostRuntime) -> Result<(), Fail> {
+    let rows = [
+        (CHAIN, 1, "a-5", "11111", 1),
+        (CHAIN, 1, "a-3", "11100", 1),
+        (CHAIN, 1, "", "00000", 0),
+        (COMB, 4, "b-2", "0101", 2),
+        (COMB, 4, "a-2 b-1", "1110", 1),
+        (COMB, 4, "a-2 b-2", "1111", 1),
+        (DIAMOND, 3, "d-1", "1111", 1),
+        (DIAMOND, 3, "c-1", "1010", 2),
+        (DIAMOND, 3, "b-1", "1100", 1),
+    ];
+    for (lines, runs, of, digits, pieces) in rows {
+        check_ranges(rt.alloc(), lines, runs, of, digits, pieces)?;
+    }
+    Ok(())
 }

@@ -1,5 +1,7 @@
 use Rattle.std.proofs.Common.{arith, sym, ◌∙◌}
+use Rattle.braid_ids.proofs.Members.{member_at, member_contains}
 use Rattle.braid_graph.proofs.Kept.{greatest_next, numbers_next, max_is}
+use Rattle.braid_graph.proofs.Marked.{number_within}
 use Rattle.braid_graph.proofs.graph.Graph.links_to.Goals as goal
 
 pub loop-i-preserved : goal.loop-i-preserved
@@ -17,3 +19,11 @@ loop-i-preserved c =
       greatest = most ∙ greatest_next es ps i id n c.loop-i.greatest c.level.result c.loop-i.invariant.greatest at is c.level.ensures.level;
       numbers = rw c.in_ok-push.ensures.items (numbers_next es ps c.loop-i.numbers.items i id n c.loop-i.invariant.numbers at is);
     }
+
+pub level-requires : goal.level-requires
+level-requires c = number_within c.args.self.now c.in-Some.id.now c.in-Some-index_of.n c.in-Some-index_of.ensures.found
+
+pub unreachable-requires-in_default-index_of : goal.unreachable-requires-in_default-index_of
+unreachable-requires-in_default-index_of c =
+    let at = sym c.in-Some.ensures.value in
+    c.in_default-index_of.ensures.none (c.requires.held c.in-Some.id.now (member_contains c.args.parents.now c.in-Some.id.now (member_at c.args.parents.now c.loop-i.i c.in-Some.id.now at)))

@@ -1,23 +1,29 @@
-use Rattle.std.proofs.Common.{◌≡◌, ◌-◌, ℕ, List, false, length, replicate, arith, refl, sym, ap, subst, ◌∙◌}
-use Rattle.braid_graph.specs.Entries.{GraphEntry, IsHistoryGraph}
-use Rattle.braid_graph.proofs.Collected.{entries_length}
-use Rattle.braid_graph.proofs.Marked.{IsWalked, walk_begun, walk_marks, walk_done}
+use Rattle.std.proofs.Common.{◌≡◌, ℕ, ◌+◌, List, length, drop, ◌-◌, arith, sym, subst}
+use Rattle.std.proofs.lemmas.List.{take_at}
+use Rattle.braid_graph.specs.Entries.{IsHistoryGraph}
+use Rattle.braid_graph.specs.Inside.{IsReached}
+use Rattle.braid_graph.proofs.Fronts.{reached_ok}
 use Rattle.braid_graph.proofs.graph.Graph.walked.Goals as goal
 
-pub mark_members-requires-clause-blank : goal.mark_members-requires-clause-blank
-mark_members-requires-clause-blank c =
-    let long : c.len.result ≡ length c.args.self.now = c.len.ensures.len ∙ sym (entries_length c.self.inside.entries.entries) ∙ ap (λ (t : List GraphEntry). length t) c.self.view_is in
-    c.in_ok-marks.ensures.ok ∙ ap (λ (n : ℕ). replicate n false) long
-
-pub loop-n-init : goal.loop-n-init
-loop-n-init c = walk_begun c.args.self.now c.args.of.now c.in_ok-end.end c.mark_members.new.marks c.in_ok-end.ensures.ok
-
-pub loop-n-preserved : goal.loop-n-preserved
-loop-n-preserved c =
-    walk_marks c.args.self.now c.args.of.now c.loop-n.n (c.loop-n.n - 1) c.loop-n.marks c.mark_parents.new.marks (subst IsHistoryGraph c.self.view_is c.self.invariant.history) (omega arith) c.loop-n.invariant (c.if-not-has.ensures.has.0 refl)
-    c.in_ok-mark_parents.ensures.size c.in_ok-mark_parents.ensures.ok
+pub loop-run-preserved : goal.loop-run-preserved
+loop-run-preserved c =
+    let es = c.args.self.now in
+    let F = c.args.of.now in
+    let r = c.loop-run.run - 1 in
+    let again : c.loop-run.run ≡ r + 1 = omega arith in
+    let old : IsReached es F F (r + 1) c.deref_mut-in-loop-run.result.now = subst (λ (t : List ℕ). IsReached es F F (r + 1) t) (sym c.deref_mut-in-loop-run.ensures.value) (subst (λ (n : ℕ). IsReached es F F n c.loop-run.ends.items) again c.loop-run.invariant) in
+    let has = c.reach_behind.ensures.reached F old in
+    let new = c.reach_behind.new.ends in
+    let rest = drop (length new) c.loop-run.ends.items in
+    let long : length new ≡ c.loop-run.ends.len = omega (arith, c.loop-run.ends.ok.0, c.loop-run.invariant.fits.size, has.fits.size) in
+    subst (λ (t : List ℕ). IsReached es F F r t) (sym (take_at new rest c.loop-run.ends.len long)) has
 
 pub returns : goal.returns
 returns c =
-    let end : c.loop-n.n ≡ 0 = omega arith in
-    record { ok = walk_done c.args.self.now c.args.of.now c.loop-n.marks (subst IsHistoryGraph c.self.view_is c.self.invariant.history) c.requires.held (subst (λ (n : ℕ). IsWalked c.args.self.now c.args.of.now n c.loop-n.marks) end c.loop-n.invariant) }
+    let es = c.args.self.now in
+    let F = c.args.of.now in
+    let h = subst IsHistoryGraph c.self.view_is c.self.invariant.kept.history in
+    let end : c.loop-run.run ≡ 0 = omega arith in
+    let all = subst (λ (n : ℕ). IsReached es F F n c.loop-run.ends.items) end c.loop-run.invariant in
+    let has = subst (λ (t : List ℕ). IsReached es F F 0 t) (sym c.deref.ensures.value) all in
+    record { ok = reached_ok es F c.deref.result.now c.fronts.result h c.requires.held has c.fronts.ensures.size c.fronts.ensures.ok }

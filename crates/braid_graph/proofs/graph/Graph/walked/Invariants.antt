@@ -1,5 +1,5 @@
-use Rattle.braid_graph.proofs.Marked.{IsWalked}
+use Rattle.braid_graph.specs.Inside.{IsReached}
 use Rattle.braid_graph.proofs.graph.Graph.walked.Given as goal
 
-abbrev pub invariant-loop-n : goal.invariant-loop-n
-invariant-loop-n l = IsWalked l.self l.of l.n l.marks
+abbrev pub invariant-loop-run : goal.invariant-loop-run
+invariant-loop-run l = IsReached l.self l.of l.of l.run l.ends.items

@@ -1,0 +1,192 @@
+//! The ancestry of a frontier, run by run.
+
+ghost use Rattle.std.specs.Prelude.{◌≡◌, ◌<◌, ◌≤◌, ◌++◌, ◌+◌, ◌↔◌, List, ℕ, length, replicate, IfOk, IfErr, OnOk, IsTrue};
+ghost use Rattle.braid_ids.specs.MarkSets.{IsMarked, pieces_of};
+ghost use Rattle.braid_graph.specs.Entries.{HoldsAll};
+ghost use Rattle.braid_graph.specs.Ancestries.{Covers, MarksAncestry, IsUnknown, NamesUnknown};
+ghost use Rattle.braid_graph.specs.Runs.{starts_of, runs_of};
+ghost use Rattle.braid_graph.specs.Inside.{IsParentNumber, AllMarked, AreEnds, IsReached, Reaches, ReachesMore};
+
+use crate::graph::Graph;
+use braid_ids::{Frontier, Id, Marks, Memory, Unknown};
+use std::alloc::Global;
+
+impl Graph {
+    /// The arrival numbers of the ancestry of a frontier: of its members, their parents, their parents' parents and so on.
+    ///
+    /// It takes time linear in the runs and the parents of what begins them, and constant time for the newest frontier.
+    /// The answer has at most as many ranges as there are runs.
+    ///
+    /// Errors: `Unknown::Id` where a member of the frontier is not held, with the least that is not; `Unknown::Memory`
+    /// where there was none.
+    pub fn ancestry(&self, alloc: Global, of: &Frontier) -> Result<Marks, Unknown>
+        ensures ok { IfOk result (λ marks. MarksAncestry self.now of.now marks) }
+        ensures pieces { IfOk result (λ marks. pieces_of marks ≤ runs_of self.now) }
+        ensures fault { IfErr result (λ unknown. IsUnknown self.now of.now unknown) }
+    {
+        if let Some(id) = self.least_unheld(of) {
+            return Err(unknown(alloc, id));
+        }
+        match self.marked(alloc, of) {
+            Ok(marks) => Ok(marks),
+            Err(_) => Err(Unknown::Memory),
+        }
+    }
+
+    /// Whether each member of `lower` is in the ancestry of `upper`.
+    ///
+    /// Errors: `Unknown::Id` where a member of either is not held, with the least of both that is not;
+    /// `Unknown::Memory` where there was none.
+    pub fn covers(&self, alloc: Global, upper: &Frontier, lower: &Frontier) -> Result<bool, Unknown>
+        ensures held { OnOk result (HoldsAll self.now (upper.now ++ lower.now)) }
+        ensures ok { IfOk result (λ covered. IsTrue covered ↔ Covers self.now upper.now lower.now) }
+        ensures fault { IfErr result (λ unknown. IsUnknown self.now (upper.now ++ lower.now) unknown) }
+    {
+        if let Some(id) = self.least_unheld_of_both(upper, lower) {
+            return Err(unknown(alloc, id));
+        }
+        match self.marked(alloc, upper) {
+            Ok(marks) => Ok(self.all_marked(lower, &marks)),
+            Err(_) => Err(Unknown::Memory),
+        }
+    }
+
+    /// The arrival numbers of the ancestry of a frontier whose members are held.
+    ///
+    /// Where all heads are among the members, that is each number.
+    fn marked(&self, alloc: Global, of: &Frontier) -> Result<Marks, Memory>
+        requires held { HoldsAll self.now of.now }
+        ensures ok { IfOk result (λ marks. MarksAncestry self.now of.now marks) }
+        ensures pieces { IfOk result (λ marks. pieces_of marks ≤ runs_of self.now) }
+    {
+        if self.heads_among(of) == self.width() {
+            return self.all_numbers(alloc);
+        }
+        self.walked(alloc, of)
+    }
+
+    /// Each arrival number.
+    fn all_numbers(&self, alloc: Global) -> Result<Marks, Memory>
+        ensures size { IfOk result (λ marks. length marks ≡ length self.now) }
+        ensures ok { IfOk result (λ marks. (n : ℕ) → n < length self.now → IsMarked marks n) }
+    {
+        let size = self.entries.len() as u32;
+        let mut marks = Marks::of(alloc, size)?;
+        if size > 0 {
+            marks.add(0, size)?;
+        }
+        Ok(marks)
+    }
+
+    /// The same by a walk over the runs, from the newest to the oldest.
+    ///
+    /// An entry that does not begin a run stands on the one before it alone. So what an ancestry has of a run is a front of
+    /// it, and more of the run comes by nothing but by its first entry's parents, which stand in runs before.
+    fn walked(&self, alloc: Global, of: &Frontier) -> Result<Marks, Memory>
+        requires held { HoldsAll self.now of.now }
+        ensures ok { IfOk result (λ marks. MarksAncestry self.now of.now marks) }
+    {
+        // The end of each run's front: one above its greatest number, or 0.
+        let mut ends = vec![in alloc; 0; self.starts.len()]?;
+        self.reach_members(of, &mut ends);
+        for run in (0..self.starts.len()).rev() {
+            self.reach_behind(run, &mut ends);
+        }
+        self.fronts(alloc, &ends)
+    }
+
+    /// Takes held identifiers into the fronts of their runs.
+    fn reach_members(&self, of: &Frontier, ends: &mut [u32])
+        requires held { HoldsAll self.now of.now }
+        requires blank { ends.old ≡ replicate (runs_of self.now) 0 }
+        ensures reached { IsReached self.now of.now of.now (runs_of self.now) ends.new }
+    {
+        for i in 0..of.len() {
+            let Some(id) = of.get(i) else { unreachable!() };
+            let Some(n) = self.index_of(id) else {
+                unreachable!()
+            };
+            self.reach(n, ends);
+        }
+    }
+
+    /// Takes the parents of a run's first entry into the fronts of their runs, where the run has a front.
+    fn reach_behind(&self, run: usize, ends: &mut [u32])
+        requires within { run < runs_of self.now }
+        requires ends { AreEnds self.now ends.old }
+        ensures reached { (F : List (List ℕ)) → IsReached self.now F F (run + 1) ends.old → IsReached self.now F F run ends.new }
+    {
+        let start = self.starts[run];
+        if ends[run] <= start {
+            return;
+        }
+        self.reach_parents(start, ends);
+    }
+
+    /// Takes the parents of an entry into the fronts of their runs.
+    fn reach_parents(&self, n: u32, ends: &mut [u32])
+        requires within { n < length self.now }
+        requires ends { AreEnds self.now ends.old }
+        ensures ends { AreEnds self.now ends.new }
+        ensures reached { ReachesMore self.now ends.old ends.new (IsParentNumber self.now n) }
+    {
+        for parent in &self.links[n as usize].parents {
+            self.reach(*parent, ends);
+        }
+    }
+
+    /// Takes an entry, and what stands before it in its run, into the run's front.
+    fn reach(&self, n: u32, ends: &mut [u32])
+        requires within { n < length self.now }
+        requires ends { AreEnds self.now ends.old }
+        ensures ends { AreEnds self.now ends.new }
+        ensures reached { ReachesMore self.now ends.old ends.new (λ m. m ≡ n) }
+    {
+        let run = self.links[n as usize].run as usize;
+        ends[run] = ends[run].max(n + 1);
+    }
+
+    /// The numbers in the fronts of the runs.
+    fn fronts(&self, alloc: Global, ends: &[u32]) -> Result<Marks, Memory>
+        requires ends { AreEnds self.now ends.now }
+        ensures size { IfOk result (λ marks. length marks ≡ length self.now) }
+        ensures ok { IfOk result (λ marks. (n : ℕ) → IsMarked marks n ↔ Reaches (starts_of self.now) ends.now n) }
+    {
+        let mut marks = Marks::of(alloc, self.entries.len() as u32)?;
+        for (run, end) in ends.iter().enumerate() {
+            let start = self.starts[run];
+            if *end <= start {
+                continue;
+            }
+            marks.add(start, *end)?;
+        }
+        Ok(marks)
+    }
+
+    /// Whether the numbers of all of these identifiers are marked.
+    fn all_marked(&self, of: &Frontier, marks: &Marks) -> bool
+        requires held { HoldsAll self.now of.now }
+        ensures all { IsTrue result ↔ AllMarked self.now of.now marks.now }
+    {
+        for i in 0..of.len() {
+            let Some(id) = of.get(i) else { unreachable!() };
+            let Some(n) = self.index_of(id) else {
+                unreachable!()
+            };
+            if !marks.has(n) {
+                return false;
+            }
+        }
+        true
+    }
+}
+
+/// The answer that names an identifier which no entry has.
+fn unknown(alloc: Global, id: &Id) -> Unknown
+    ensures names { NamesUnknown result id.now }
+{
+    match id.copy(alloc) {
+        Ok(id) => Unknown::Id { id },
+        Err(_) => Unknown::Memory,
+    }
+}
