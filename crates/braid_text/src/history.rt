@@ -1,8 +1,10 @@
 //! A history with its version graph and a document of its elements.
 
-ghost use Rattle.std.specs.Prelude.{◌≡◌, ◌≢◌, ◌+◌, ◌<◌, ◌≤◌, ◌++◌, ◌∷◌, [], Ok, Err, IfOk, IfErr, OnOk, OnErr, length, map, Contains};
+ghost use Rattle.std.specs.Prelude.{◌≡◌, ◌≢◌, ◌+◌, ◌<◌, ◌≤◌, ◌^◌, ◌++◌, ◌∷◌, [], Ok, Err, IfOk, IfErr, OnOk, OnErr, length, map, vec_len, vec_capacity, Contains};
 ghost use Rattle.braid_graph.specs.Ancestries.{IsUnknown};
 ghost use Rattle.braid_graph.specs.Entries.{HoldsAll};
+ghost use Rattle.braid_tree.specs.Rows.{HasRoomFor};
+ghost use Rattle.braid_text.specs.Puts.{total_len};
 ghost use Rattle.braid_text.specs.Histories.{graph_of, text_at, elements_of, deletions_of};
 ghost use Rattle.braid_text.specs.Answers.{needs_of, HasRoom, IsAnswer};
 ghost use Rattle.braid_text.specs.Standing.{Stands, IsTakable};
@@ -14,7 +16,7 @@ use crate::judging::{answer_held, first_full, read_parts, text_len, unknown_pare
 use crate::room::Room;
 use braid_change::{Text, Update};
 use braid_graph::Graph;
-use braid_ids::{Frontier, Memory, Unknown};
+use braid_ids::{Frontier, Id, Memory, Unknown};
 use braid_rebase::{RebaseFault, Resolved, resolve};
 use braid_tree::Document;
 use std::alloc::Global;
@@ -77,6 +79,33 @@ impl<D: Document> History<D> {
         ensures kept { OnErr result (self.new.updates.items ≡ self.old.updates.items) }
         ensures stands { Stands self.new.updates.items self.new.graph (D.stamps self.new.document) (D.rows self.new.document) (D.removed self.new.document) }
     {
+        let name = self.prepare(alloc, &update, &resolved)?;
+        add_version(&mut self.document, name, &resolved);
+        self.updates.push_reserved(update);
+        Ok(())
+    }
+
+    /// Puts an update into the graph and makes room for the rest of it: all that can fail. It answers the name of the
+    /// update's version.
+    ///
+    /// Errors: `Memory` where there was none to grow; graph and document are unchanged then.
+    fn prepare(&mut self, alloc: Global, update: &Update, resolved: &Resolved) -> Result<Id, Memory>
+        requires stands { Stands self.old.updates.items self.old.graph (D.stamps self.old.document) (D.rows self.old.document) (D.removed self.old.document) }
+        requires takable { IsTakable self.old.updates.items (D.removed self.old.document) (D.rows self.old.document) update.now resolved.now }
+        requires versions { length self.old.updates.items < 524288 }
+        requires elements { length (elements_of self.old.updates.items) + (needs_of self.old.updates.items update.now).elements ≤ 33554432 }
+        requires deletions { length (deletions_of self.old.updates.items) + (needs_of self.old.updates.items update.now).deletions ≤ 67108864 }
+        ensures named { IfOk result (λ name. name ≡ update.now.id) }
+        ensures added { OnOk result (self.new.graph ≡ self.old.graph ++ record { id = update.now.id; parents = update.now.parents } ∷ []) }
+        ensures kept { OnErr result (self.new.graph ≡ self.old.graph) }
+        ensures updates { self.new.updates.items ≡ self.old.updates.items }
+        ensures stamps { D.stamps self.new.document ≡ D.stamps self.old.document }
+        ensures rows { D.rows self.new.document ≡ D.rows self.old.document }
+        ensures removed { D.removed self.new.document ≡ D.removed self.old.document }
+        ensures room { OnOk result (HasRoomFor (D.room self.new.document) 1 (total_len resolved.now.runs.items) (length resolved.now.deletes.items)) }
+        ensures reserved { OnOk result (vec_len self.new.updates < vec_capacity self.new.updates) }
+        ensures fits { OnOk result (total_len resolved.now.runs.items < 2 ^ 32) }
+    {
         let name = update.id().copy(alloc)?;
         let id = update.id().copy(alloc)?;
         let parents = update.parents().copy(alloc)?;
@@ -84,10 +113,7 @@ impl<D: Document> History<D> {
             .reserve(1, text_len(&resolved.runs), resolved.deletes.len() as u32)?;
         self.updates.reserve(1)?;
         self.graph.add(id, parents)?;
-        // From here on nothing can fail.
-        add_version(&mut self.document, name, &resolved);
-        self.updates.push_reserved(update);
-        Ok(())
+        Ok(name)
     }
 
     /// What is read at a frontier.
