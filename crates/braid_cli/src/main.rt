@@ -1,8 +1,8 @@
 //! The program `braid`: carries out the command that its words are, over standard input and output.
 //!
 //! `run` is the top call. Its contract says, for any source and any sink, what is printed and with which status, as a
-//! function of the bytes that the source gave. `main` hands it the words, standard input and standard output, and
-//! ends with its status.
+//! function of the bytes that the source gave. `exit_code` takes the words, or why they were not read, and answers the
+//! exit status as a number. `main` hands it standard input and standard output, and ends with that number.
 //!
 //! Not promised: what a terminal, a pipe or a file behind standard input and output holds.
 #![tactic(auto)]
@@ -10,20 +10,14 @@
 mod commands;
 mod words;
 
-use braid_io::{Status, StdSink, StdSource};
+use braid_io::{StdSink, StdSource};
+use commands::exit_code;
 use std::process::ExitCode;
-use words::{WordsFault, read_words};
+use words::read_words;
 
 fn main(rt: HostRuntime) -> ExitCode {
-    let mut source = StdSource::new(rt.reader());
-    let mut out = StdSink::new(std::io::writer(&rt));
-    let words = match read_words(&rt) {
-        Ok(words) => words,
-        Err(WordsFault::NotText) => Vec::new(rt.alloc()),
-        Err(WordsFault::Memory) => return ExitCode::from(Status::Memory.code()),
-    };
-    let status = commands::run(rt.alloc(), &words, &mut source, &mut out);
-    ExitCode::from(status.code())
+    let (mut source, mut out) = (StdSource::new(rt.reader()), StdSink::new(std::io::writer(&rt)));
+    ExitCode::from(exit_code(rt.alloc(), read_words(&rt), &mut source, &mut out))
 }
 
 #[cfg(test)]
