@@ -3,8 +3,8 @@ use Rattle.std.proofs.Common.{◌≡◌, ℕ, ◌+◌, ◌<◌, List, ◌++◌, 
 use Rattle.std.proofs.lemmas.List.{take-append-drop, drop-drop}
 use Rattle.std.proofs.Math.Seq.{take-add}
 use Rattle.braid_io.specs.declared.source.Read.TheVariants.{Got}
-use Rattle.braid_io.specs.Outside.{Reads}
-use Rattle.braid_io.specs.InMemory.{MemIntake, Gives, intake_of, next_count, PureIntake, GivesFront, pure_intake}
+use Rattle.braid_io.specs.Outside.{Reads, next_count}
+use Rattle.braid_io.specs.InMemory.{MemIntake, Gives, intake_of, PureIntake, GivesFront, pure_intake}
 
 -- a piece that is given moves, and is at least a byte
 pub gives_reads : (n : ℕ) (buf : List ℕ) (old new : MemIntake) → 0 < old.piece → 0 < length buf → Gives n buf old new → Reads (Got n) buf (intake_of old) (intake_of new)

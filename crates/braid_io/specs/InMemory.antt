@@ -1,11 +1,11 @@
 -- The forms in memory, as their contracts see them, and exactly what one call of each does.
-use Rattle.std.specs.Prelude.{◌≡◌, ℕ, ◌+◌, ◌-◌, ◌^◌, ◌<◌, ◌⊎◌, min, List, [], ◌++◌, length, take, drop, Some}
+use Rattle.std.specs.Prelude.{◌≡◌, ℕ, ◌-◌, ◌<◌, ◌⊎◌, min, List, [], ◌++◌, length, take, drop, Some}
 use Rattle.std.specs.List.{Contains}
 use Rattle.braid_io.specs.declared.source.Read.{Read}
 use Rattle.braid_io.specs.declared.source.Read.TheVariants.{Got, End, Failed}
 use Rattle.braid_io.specs.declared.sink.Wrote.{Wrote}
 use Rattle.braid_io.specs.declared.sink.Wrote.TheVariants.{Took, Failed as NotTaken}
-use Rattle.braid_io.specs.Outside.{Intake, Outflow}
+use Rattle.braid_io.specs.Outside.{Intake, Outflow, next_count}
 
 -- A source in memory: the bytes given and left, the most that one read gives, the numbers of the calls that fail,
 -- the number of the next call, and the count of faults.
@@ -42,10 +42,6 @@ pub record MemOutflow : Type 0 where
 -- What a sink in memory tells: all of it.
 abbrev pub outflow_of : MemOutflow → Outflow
 outflow_of s = record { written = Some s.written; faults = s.faults }
-
--- A count that rises by one, or stays at its type's end.
-abbrev pub next_count : ℕ → ℕ
-next_count n = min (n + 1) (2 ^ 64 - 1)
 
 -- A read gives the first n bytes of what is left: as many as the piece and the buffer allow.
 pub record Gives (n : ℕ) (buf : List ℕ) (old new : MemIntake) : Type 0 where

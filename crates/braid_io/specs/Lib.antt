@@ -1,4 +1,11 @@
 pub mod Adapters
+pub mod Bells
+pub mod Dialers
+pub mod Doors
 pub mod InMemory
+pub mod Keepers
+pub mod MemDialers
+pub mod MemDoors
+pub mod MemKeepers
 pub mod Outside
 pub mod Statuses

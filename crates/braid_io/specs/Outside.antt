@@ -1,5 +1,6 @@
 -- What reads and writes do to what a source and a sink tell, and to their counts of faults.
-use Rattle.std.specs.Prelude.{◌≡◌, ◌≢◌, ℕ, ◌-◌, ◌^◌, ◌<◌, ◌≤◌, ◌⊎◌, List, [], length, take, Option, None, ◌++◌}
+use Rattle.std.specs.Prelude.{◌≡◌, ◌≢◌, ℕ, ◌+◌, ◌-◌, ◌^◌, ◌<◌, ◌≤◌, ◌⊎◌, min, List, [], ◌∷◌, length, take, ⊤, Option, Some, None, ◌++◌}
+use Rattle.std.specs.Option.{option_map}
 use Rattle.std.specs.Io.KnownBytes.{append_known, prepend_known, IsAtEnd}
 use Rattle.braid_io.specs.declared.source.Read.{Read}
 use Rattle.braid_io.specs.declared.source.Read.TheVariants.{Got, End, Failed}
@@ -29,6 +30,53 @@ no_outflow = record { written = None; faults = 0 }
 -- A count of faults rose; one that stands at its type's end counts as one that rose.
 abbrev pub Rose : ℕ → ℕ → Type 0
 Rose old new = (old < new) ⊎ (new ≡ 2 ^ 64 - 1)
+
+-- A count that rises by one, or stays at its type's end.
+abbrev pub next_count : ℕ → ℕ
+next_count n = min (n + 1) (2 ^ 64 - 1)
+
+-- Two counts together, or their type's end.
+abbrev pub joint_count : ℕ → ℕ → ℕ
+joint_count n m = min (n + m) (2 ^ 64 - 1)
+
+-- A number of things that are left is told or not; where it is told, one is left.
+abbrev pub HasOne : Option ℕ → Type 0
+HasOne None = ⊤
+HasOne (Some n) = 0 < n
+
+-- Where the number is told, none is left.
+abbrev pub HasNone : Option ℕ → Type 0
+HasNone None = ⊤
+HasNone (Some n) = n ≡ 0
+
+-- One more, where the number is told.
+abbrev pub one_more : Option ℕ → Option ℕ
+one_more = option_map (λ n. n + 1)
+
+-- One fewer, where the number is told.
+abbrev pub one_fewer : Option ℕ → Option ℕ
+one_fewer = option_map (λ n. n - 1)
+
+-- A list is told or not; where it is told, this one stands at its end.
+abbrev pub with_last : {A : Type 0} → Option (List A) → A → Option (List A)
+with_last told x = option_map (λ xs. xs ++ x ∷ []) told
+
+-- Where the list is told, it is empty.
+abbrev pub IsBlank : {A : Type 0} → Option (List A) → Type 0
+IsBlank None = ⊤
+IsBlank (Some xs) = xs ≡ []
+
+-- Where the list is told, it is not empty.
+abbrev pub IsFilled : {A : Type 0} → Option (List A) → Type 0
+IsFilled None = ⊤
+IsFilled (Some xs) = 0 < length xs
+
+-- A new link: it has given nothing and taken nothing, where it tells that, and had no fault.
+pub record IsNewLink (intake : Intake) (outflow : Outflow) : Type 0 where
+  pub taken : IsBlank intake.taken
+  pub written : IsBlank outflow.written
+  pub read_faults : intake.faults ≡ 0
+  pub write_faults : outflow.faults ≡ 0
 
 -- A source gave these bytes: they went from the front of what was left to the end of what was taken.
 pub record Moves (bytes : List ℕ) (old new : Intake) : Type 0 where

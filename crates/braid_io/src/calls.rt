@@ -1,6 +1,6 @@
 ghost use Rattle.std.specs.Prelude.{◌≡◌, ◌↔◌, IsTrue};
 ghost use Rattle.std.specs.List.{Contains};
-ghost use Rattle.braid_io.specs.InMemory.{next_count};
+ghost use Rattle.braid_io.specs.Outside.{next_count};
 
 /// The calls made of an object in memory: their number, which of them fail, and how many failed.
 #[derive(Drop)]

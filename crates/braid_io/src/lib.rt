@@ -11,13 +11,23 @@
 //! Not promised: that a read or a write ever comes, or that what an adapter took reaches anyone.
 #![tactic(auto)]
 
+mod bell;
 mod calls;
 mod copies;
+mod dialer;
+mod door;
+mod keeper;
 pub mod laws;
 mod link;
+mod mem_bell;
+mod mem_dialer;
+mod mem_door;
+mod mem_keeper;
 mod mem_link;
+mod mem_port;
 mod mem_sink;
 mod mem_source;
+mod port;
 mod pure_source;
 mod sink;
 mod source;
@@ -25,10 +35,20 @@ mod status;
 mod std_sink;
 mod std_source;
 
+pub use bell::{Bell, Rang};
+pub use dialer::{Dialed, Dialer};
+pub use door::{Came, Door};
+pub use keeper::{Keeper, Loaded, Saved};
 pub use link::Link;
+pub use mem_bell::MemBell;
+pub use mem_dialer::{HungUp, MemDialer};
+pub use mem_door::MemDoor;
+pub use mem_keeper::MemKeeper;
 pub use mem_link::MemLink;
+pub use mem_port::MemPort;
 pub use mem_sink::MemSink;
 pub use mem_source::MemSource;
+pub use port::{Asked, Opened, Port};
 pub use pure_source::PureSource;
 pub use sink::{Sink, WriteEnd, Wrote, write_all};
 pub use source::{Read, Source};
@@ -36,5 +56,7 @@ pub use status::Status;
 pub use std_sink::StdSink;
 pub use std_source::StdSource;
 
+#[cfg(test)]
+mod door_tests;
 #[cfg(test)]
 mod tests;
