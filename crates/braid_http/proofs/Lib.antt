@@ -1,0 +1,6 @@
+pub mod Fronts
+pub mod LineLaws
+pub mod ChunkLaws
+pub mod Decisions
+pub mod CutLaws
+pub mod Sizes

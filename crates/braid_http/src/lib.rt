@@ -1,0 +1,24 @@
+//! HTTP messages on the server's side: whole requests out of bytes, and replies into bytes (RFC 9112).
+//!
+//! A `Wire` keeps what was read past the last message of a connection; each call takes the link that it reads. `ask`
+//! gives the request or the refusal that the bytes decide, and reads only while they decide nothing. Which bytes decide
+//! what is a relation on whole lists (`Decides`), and `laws` says that no bytes that decide begin others that do.
+//! Heads are read by `httparse`, methods are `http`'s, and fields stand in `http_header`'s map.
+//!
+//! `reply_bytes` gives the bytes of each reply, and `closing` puts `Connection: close` into one.
+//!
+//! Not promised: that a read ends, and how long the memory of a body lasts.
+#![tactic(auto)]
+
+mod framing;
+pub mod laws;
+mod refusal;
+mod reply;
+mod request;
+mod stop;
+
+pub use framing::Framing;
+pub use refusal::Refusal;
+pub use reply::Reply;
+pub use request::{Asked, Request};
+pub use stop::Stop;
