@@ -5,4 +5,5 @@ pub mod Chunks
 pub mod Requests
 pub mod Cuts
 pub mod Asks
+pub mod Reads
 pub mod Replies

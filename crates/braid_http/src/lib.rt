@@ -11,14 +11,17 @@
 #![tactic(auto)]
 
 mod framing;
+mod held;
 pub mod laws;
 mod refusal;
 mod reply;
 mod request;
 mod stop;
+mod wire;
 
 pub use framing::Framing;
 pub use refusal::Refusal;
 pub use reply::Reply;
 pub use request::{Asked, Request};
 pub use stop::Stop;
+pub use wire::Wire;
