@@ -160,7 +160,7 @@ one_body most cs ds k j b d r s x y e =
     let dz = zero_first (length (chunk_data ds)) in
     let group : (a c z : List ℕ) → (a ++ c) ++ z ≡ a ++ (c ++ z) = λ a c z. append_assoc a c z in
     let z = same_chunks most 0 cs ds k j x.line x.more y.line y.more r s x.each y.each (rw cz x.fits) (rw dz y.fits) (rw cz x.closes) (rw dz y.closes)
-      (sym (group (flat_map print_chunk cs) (x.line ++ x.more) r) ∙ ap (λ w. w ++ r) (sym x.whole) ∙ e ∙ ap (λ w. w ++ s) y.whole ∙ group (flat_map print_chunk ds) (y.line ++ y.more) s) in
+    (sym (group (flat_map print_chunk cs) (x.line ++ x.more) r) ∙ ap (λ w. w ++ r) (sym x.whole) ∙ e ∙ ap (λ w. w ++ s) y.whole ∙ group (flat_map print_chunk ds) (y.line ++ y.more) s) in
     (z.0, z.1, x.whole ∙ (λ i. flat_map print_chunk (z.0 i) ++ z.2 i) ∙ sym y.whole)
 
 pub one_data : OneData

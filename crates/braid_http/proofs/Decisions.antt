@@ -58,8 +58,14 @@ shape _ _ (by_fields b t h f i s) = headed (bare b t _ i (fields h f s refl))
 shape _ _ (whole b head content t h i s e) =
     headed (record { text = t; content = content; is = i.text; short = i.short; whole = e ∙ ap (λ z. z ++ content) i.spelled; verdict = takes h s })
 shape _ _ (chunked b head body content t h i s c e) =
-    headed (record { text = t; content = body; is = i.text; short = i.short; whole = e ∙ ap (λ z. z ++ body) i.spelled;
-      verdict = rw (c.gives) (chunks h c.chunks done s c.ends) })
+    headed (record {
+      text = t;
+      content = body;
+      is = i.text;
+      short = i.short;
+      whole = e ∙ ap (λ z. z ++ body) i.spelled;
+      verdict = rw (c.gives) (chunks h c.chunks done s c.ends);
+    })
 shape _ _ (bad_chunks b head body t h cs i s c e) =
     headed (record { text = t; content = body; is = i.text; short = i.short; whole = e ∙ ap (λ z. z ++ body) i.spelled; verdict = chunks h cs bad_chunk s c })
 shape _ _ (long_chunks b head body t h cs i s c e) =
@@ -132,4 +138,3 @@ one_answer x y b d r s p q e = go (shape x b p) (shape y d q)
         let texts = t.0 in
         let contents = v.0 in
         (h.whole ∙ ap (λ (z : HeadText). text_bytes z ++ h.content) texts ∙ ap (λ z. text_bytes k.text ++ z) contents ∙ sym k.whole, v.1)
-

@@ -20,4 +20,3 @@ cut_front b a rest z l s e =
     let m = length-append b rest in
     let size : length (a ++ take (16_384 - length a) z) ≡ 16_384 = omega (arith, length-append a (take (16_384 - length a) z), length-take (16_384 - length a) z, k, m, l, s) in
     same_front b (a ++ take (16_384 - length a) z) rest (drop (16_384 - length a) z) (l ∙ sym size) (e ∙ ap (λ w. a ++ w) (sym whole) ∙ sym (append_assoc a (take (16_384 - length a) z) (drop (16_384 - length a) z)))
-

@@ -4,3 +4,5 @@ pub mod ChunkLaws
 pub mod Decisions
 pub mod CutLaws
 pub mod Sizes
+pub mod Looking
+pub mod ReplyTexts

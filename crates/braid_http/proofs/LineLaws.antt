@@ -4,7 +4,7 @@ use Rattle.std.proofs.lemmas.List.{take_at}
 use Rattle.std.specs.List.{AllByRecursion}
 use Rattle.braid_ids.specs.Lists.{Lacks}
 use Rattle.braid_ids.proofs.Splits.{one_split, lacks_split}
-use Rattle.braid_http.specs.Heads.{line, lines, IsEmptyLine, IsFullLine, HeadText, IsHeadText, head_bytes, text_bytes, HasNoHead, HasNoBlock}
+use Rattle.braid_http.specs.Heads.{line, lines, IsEmptyLine, IsFullLine, HeadText, IsHeadText, head_bytes, text_bytes, HasNoHead, HasNoBlock, BeginsFull}
 
 pub line-append : (c rest : List ℕ) → line c ++ rest ≡ c ++ 10 ∷ rest
 line-append c rest = append_assoc c (10 ∷ []) rest
@@ -39,7 +39,7 @@ same_block (k ∷ fs) [] a b x y f g i j e =
     absurd (not_both b k j f.0 s.0)
 same_block (k ∷ fs) (m ∷ gs) a b x y f g i j e =
     let regroup : (c : List ℕ) (cs : List (List ℕ)) (d z : List ℕ) → (lines (c ∷ cs) ++ line d) ++ z ≡ line c ++ ((lines cs ++ line d) ++ z) =
-      λ c cs d z. ap (λ w. w ++ z) (append_assoc (line c) (lines cs) (line d)) ∙ append_assoc (line c) (lines cs ++ line d) z in
+    λ c cs d z. ap (λ w. w ++ z) (append_assoc (line c) (lines cs) (line d)) ∙ append_assoc (line c) (lines cs ++ line d) z in
     let s = same_line k m _ _ f.0.ended g.0.ended (sym (regroup k fs a x) ∙ e ∙ regroup m gs b y) in
     let p = same_block fs gs a b x y f.1 g.1 i j s.1 in
     let first = s.0 in
@@ -59,7 +59,9 @@ record Front (fs : List (List ℕ)) (a x : List ℕ) : Type 0 where
 front_of : (fs : List (List ℕ)) (a x : List ℕ) → AllByRecursion IsFullLine fs → 0 < length fs → Front fs a x
 front_of [] a x f s = absurd (omega (arith, s))
 front_of (k ∷ fs) a x f s = record {
-  first = k; others = (lines fs ++ line a) ++ x; full = f.0;
+  first = k;
+  others = (lines fs ++ line a) ++ x;
+  full = f.0;
   is = ap (λ w. w ++ x) (append_assoc (line k) (lines fs) (line a)) ∙ append_assoc (line k) (lines fs ++ line a) x;
 }
 
@@ -86,7 +88,7 @@ same_blank (c ∷ bs) (d ∷ cs) fs gs a b x y m n f g p q i j e =
 pub same_text : (t u : HeadText) (x y : List ℕ) → IsHeadText t → IsHeadText u → text_bytes t ++ x ≡ text_bytes u ++ y → (t ≡ u) × (x ≡ y)
 same_text t u x y i j e =
     let s = same_blank t.blank u.blank t.full u.full t.last u.last x y i.blank j.blank i.full j.full i.some j.some i.last j.last
-      (sym (append_assoc (lines t.blank) (head_bytes t) x) ∙ e ∙ append_assoc (lines u.blank) (head_bytes u) y) in
+    (sym (append_assoc (lines t.blank) (head_bytes t) x) ∙ e ∙ append_assoc (lines u.blank) (head_bytes u) y) in
     (λ k. record { blank = s.0 k; full = s.1 k; last = s.2 k }, s.3)
 
 -- empty lines were passed
@@ -95,11 +97,11 @@ pub record Blanks (rest bytes : List ℕ) : Type 0 where
   pub each : AllByRecursion IsEmptyLine blank
   pub whole : bytes ≡ lines blank ++ rest
 
-push_each : (P : List ℕ → Type 0) (cs : List (List ℕ)) (c : List ℕ) → AllByRecursion P cs → P c → AllByRecursion P (cs ++ c ∷ [])
+pub push_each : (P : List ℕ → Type 0) (cs : List (List ℕ)) (c : List ℕ) → AllByRecursion P cs → P c → AllByRecursion P (cs ++ c ∷ [])
 push_each P [] c h p = (p, tt)
 push_each P (d ∷ cs) c h p = (h.0, push_each P cs c h.1 p)
 
-lines_push : (cs : List (List ℕ)) (c rest : List ℕ) → lines (cs ++ c ∷ []) ++ rest ≡ lines cs ++ (c ++ 10 ∷ rest)
+pub lines_push : (cs : List (List ℕ)) (c rest : List ℕ) → lines (cs ++ c ∷ []) ++ rest ≡ lines cs ++ (c ++ 10 ∷ rest)
 lines_push [] c rest = ap (λ w. w ++ rest) (append-nil (line c)) ∙ line-append c rest
 lines_push (d ∷ cs) c rest = append_assoc (line d) (lines (cs ++ c ∷ [])) rest ∙ ap (λ w. line d ++ w) (lines_push cs c rest) ∙ sym (append_assoc (line d) (lines cs) (c ++ 10 ∷ rest))
 
@@ -109,10 +111,6 @@ blank_more rest bytes c after b i e = record {
   each = push_each _ b.blank c b.each i;
   whole = b.whole ∙ ap (λ w. lines b.blank ++ w) e ∙ sym (lines_push b.blank c after);
 }
-
--- no empty line stands at the front
-abbrev pub BeginsFull : List ℕ → Type 0
-BeginsFull bytes = (content rest : List ℕ) → IsEmptyLine content → bytes ≢ line content ++ rest
 
 pub begins_full : (rest c after : List ℕ) → Lacks 10 c → rest ≡ c ++ 10 ∷ after → (IsEmptyLine c → ⊥) → BeginsFull rest
 begins_full rest c after h e n d more i f =
@@ -139,7 +137,7 @@ full_more count rest bytes c after b h n e = record {
   few = let k = b.few in let l = ap length e ∙ length-append c (10 ∷ after) in omega (arith, k, l);
 }
 
-no_block_in : (fs : List (List ℕ)) (rest : List ℕ) → AllByRecursion IsFullLine fs → Lacks 10 rest → HasNoBlock (lines fs ++ rest)
+pub no_block_in : (fs : List (List ℕ)) (rest : List ℕ) → AllByRecursion IsFullLine fs → Lacks 10 rest → HasNoBlock (lines fs ++ rest)
 no_block_in [] rest f h [] last x g i e = no_line rest last x h e
 no_block_in [] rest f h (k ∷ gs) last x g i e =
     no_line rest k ((lines gs ++ line last) ++ x) h (e ∙ ap (λ w. w ++ x) (append_assoc (line k) (lines gs) (line last)) ∙ append_assoc (line k) (lines gs ++ line last) x)
@@ -185,18 +183,18 @@ pub head_at : (bytes start rest front : List ℕ) (count : ℕ) (blank : List (L
     → (full : List (List ℕ)) (last : List ℕ) → AllByRecursion IsFullLine full → IsEmptyLine last → count ≡ length full → start ≡ (lines full ++ line last) ++ rest
     → front ≡ take (length start - length rest) start
     → (t : HeadText) × IsHeadText t × (front ≡ head_bytes t) × (count ≡ length t.full) × (bytes ≡ text_bytes t ++ rest)
-head_at bytes start rest front count blank each whole begins full last f i n s cut =
-    (
-      record { blank = blank; full = full; last = last },
-      record { blank = each; full = f; some = some full s; last = i },
-      cut ∙ front_is,
-      n,
-      whole ∙ ap (λ w. lines blank ++ w) s ∙ sym (append_assoc (lines blank) (lines full ++ line last) rest),
-    )
+head_at bytes start rest front count blank each whole begins full last f i n s cut = (
+  record { blank = blank; full = full; last = last },
+  record { blank = each; full = f; some = some full s; last = i },
+  cut ∙ front_is,
+  n,
+  whole ∙ ap (λ w. lines blank ++ w) s ∙ sym (append_assoc (lines blank) (lines full ++ line last) rest),
+)
   where
     some : (gs : List (List ℕ)) → start ≡ (lines gs ++ line last) ++ rest → 0 < length gs
     some [] e = absurd (begins last rest i e)
     some (g ∷ gs) e = omega arith
+
     front_is : take (length start - length rest) start ≡ lines full ++ line last
     front_is =
         let b = lines full ++ line last in

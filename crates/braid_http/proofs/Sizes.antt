@@ -124,6 +124,7 @@ few_bytes x b p = go (shape x b p)
     of t content _ (fields h f s e) = let k = ap length e in omega (arith, k)
     of t content _ (takes h s) = let k = said_short t h (length content) s in omega (arith, k)
     of t content _ (chunks h cs k s e) = let l = body_short 2_097_152 cs k content e in omega (arith, l)
+
     go : Shape x b → length b ≤ 543_200_000
     go (long l n i) = omega (arith, l)
     go (headed h) =

@@ -57,3 +57,7 @@ abbrev pub HasNoBlock : List ℕ → Type 0
 HasNoBlock bytes =
     (full : List (List ℕ)) (last rest : List ℕ) → AllByRecursion IsFullLine full → IsEmptyLine last
     → bytes ≢ (lines full ++ line last) ++ rest
+
+-- no empty line stands at the front
+abbrev pub BeginsFull : List ℕ → Type 0
+BeginsFull bytes = (content rest : List ℕ) → IsEmptyLine content → bytes ≢ line content ++ rest

@@ -6,4 +6,5 @@ pub mod Requests
 pub mod Cuts
 pub mod Asks
 pub mod Reads
+pub mod Looks
 pub mod Replies

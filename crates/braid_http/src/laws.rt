@@ -7,35 +7,29 @@ ghost use Rattle.braid_http.specs.Requests.{OneAnswer, StaysDecided, FewBytes};
 /// No bytes that decide an answer begin others that do, and they decide one.
 pub fn one_answer()
     ensures law { OneAnswer }
-{
-}
+{}
 
 /// What is decided stays decided, whatever bytes follow.
 pub fn stays_decided()
     ensures law { StaysDecided }
-{
-}
+{}
 
 /// At most 543,200,000 bytes belong to a request, or stand up to the byte that shows its refusal.
 pub fn few_bytes()
     ensures law { FewBytes }
-{
-}
+{}
 
 /// The bytes of a connection are cut into requests in one way.
 pub fn one_cut()
     ensures law { OneCut }
-{
-}
+{}
 
 /// No bytes that decide a chunked body begin others that decide one, and they decide it in one way.
 pub fn one_body()
     ensures law { OneBody }
-{
-}
+{}
 
 /// Chunked bytes have one data.
 pub fn one_data()
     ensures law { OneData }
-{
-}
+{}

@@ -13,6 +13,7 @@
 mod framing;
 mod held;
 pub mod laws;
+mod looks;
 mod refusal;
 mod reply;
 mod request;
@@ -21,7 +22,7 @@ mod wire;
 
 pub use framing::Framing;
 pub use refusal::Refusal;
-pub use reply::Reply;
+pub use reply::{Reply, reply_bytes};
 pub use request::{Asked, Request};
 pub use stop::Stop;
 pub use wire::Wire;

@@ -31,10 +31,7 @@ impl Refusal {
             Refusal::LongHead | Refusal::ManyFields => 431,
             Refusal::Version => 505,
             Refusal::TooLong => 413,
-            Refusal::BadHead
-            | Refusal::BothLengths
-            | Refusal::BadLength
-            | Refusal::BadChunk => 400,
+            Refusal::BadHead | Refusal::BothLengths | Refusal::BadLength | Refusal::BadChunk => 400,
         }
     }
 
