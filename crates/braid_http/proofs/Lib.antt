@@ -6,3 +6,10 @@ pub mod CutLaws
 pub mod Sizes
 pub mod Looking
 pub mod ReplyTexts
+pub mod ClosedTexts
+pub mod FieldLemmas
+pub mod WholeLemmas
+pub mod MapSizes
+pub mod Parts
+pub mod Openness
+pub mod StepLaws

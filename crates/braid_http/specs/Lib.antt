@@ -7,4 +7,6 @@ pub mod Cuts
 pub mod Asks
 pub mod Reads
 pub mod Looks
+pub mod HeadReads
+pub mod Steps
 pub mod Replies

@@ -10,7 +10,9 @@
 //! Not promised: that a read ends, and how long the memory of a body lasts.
 #![tactic(auto)]
 
+mod chunks;
 mod framing;
+mod head;
 mod held;
 pub mod laws;
 mod looks;
@@ -22,7 +24,7 @@ mod wire;
 
 pub use framing::Framing;
 pub use refusal::Refusal;
-pub use reply::{Reply, reply_bytes};
+pub use reply::{Reply, closing, reply_bytes};
 pub use request::{Asked, Request};
 pub use stop::Stop;
 pub use wire::Wire;

@@ -1,9 +1,11 @@
-ghost use Rattle.std.specs.Prelude.{◌≡◌, ◌++◌, false, codes, decimal, flat_map, IfOk, OnOk, ◌==◌, if◌then◌else◌};
+ghost use Rattle.std.specs.Prelude.{◌≡◌, ◌++◌, false, true, codes, decimal, flat_map, IfOk, OnOk, ◌==◌, if◌then◌else◌};
 ghost use Rattle.braid_ids.specs.Identifiers.{spelled_id};
 ghost use Rattle.braid_change.specs.Spellings.{parents_text as list_text};
-ghost use Rattle.braid_http.specs.Replies.{phrase_of, allow_lines, close_lines, ended, reply_text, IsWritable};
+ghost use Rattle.braid_http.specs.Replies.{phrase_of, allow_lines, close_lines, ended, head_lines, content_of, reply_text, IsWritable, IsClosable};
+ghost use Rattle.braid_http.specs.declared.reply.Reply.{Reply as Replying};
 ghost use Rattle.braid_http.specs.declared.reply.Reply.TheVariants as replies;
 
+use crate::looks::Look;
 use braid_change::Text;
 use braid_ids::{Bytes, Frontier, Id, Memory};
 use itoa::Buffer;
@@ -201,4 +203,36 @@ fn push_number(out: &mut Bytes, n: usize) -> Result<(), Memory>
 {
     let mut buffer = Buffer::new();
     out.push(buffer.format(n).as_bytes())
+}
+
+/// A reply with `Connection: close` as the last line of its head.
+///
+/// The bytes are those that `reply_bytes` gives for a reply that has no such line and is no subscription.
+///
+/// Errors: `Memory` where there was none for them; the bytes are dropped.
+pub fn closing(alloc: Global, bytes: Bytes) -> Result<Bytes, Memory>
+    requires closable { (reply : Replying) × IsClosable reply × (bytes ≡ reply_text false reply) }
+    ensures ok { IfOk result (λ closed. (reply : Replying) → IsClosable reply → bytes ≡ reply_text false reply
+        → closed ≡ reply_text true reply) }
+{
+    let (head, content) = head_and_content(bytes.get());
+    let mut out = Bytes::of(alloc, head)?;
+    out.push(b"Connection: close\r\n\r\n")?;
+    out.push(content)?;
+    Ok(out)
+}
+
+/// The lines of a reply's head, and what stands behind its empty line.
+fn head_and_content(bytes: &[u8]) -> (&[u8], &[u8])
+    requires closable { (reply : Replying) × IsClosable reply × (bytes.now ≡ reply_text false reply) }
+    ensures head { (reply : Replying) → IsClosable reply → bytes.now ≡ reply_text false reply
+        → result.0.now ≡ flat_map ended (head_lines reply) }
+    ensures content { (reply : Replying) → IsClosable reply → bytes.now ≡ reply_text false reply
+        → result.1.now ≡ content_of reply }
+{
+    let mut look = Look::new();
+    let Some(end) = look.find(bytes) else {
+        unreachable!()
+    };
+    (&bytes[..end - 2], &bytes[end..])
 }
