@@ -122,32 +122,28 @@ alone_line : (xs : List ℕ) → list_all (λ x. not (x == 10)) xs ≡ true → 
 alone_line xs e some = (lacks_all xs e, some)
 
 head_full : (r : Reply) → IsClosable r → AllByRecursion IsHeadLine (head_lines r)
-head_full (Text version text) h =
+head_full (Text version text) h = (
+  alone_line (codes "HTTP/1.1 200 OK") refl (omega arith),
+  (
+    literal (codes "Version:") (list_text version) refl (omega arith) (lacks_list version h),
     (
-      alone_line (codes "HTTP/1.1 200 OK") refl (omega arith),
-      (
-        literal (codes "Version:") (list_text version) refl (omega arith) (lacks_list version h),
-        (
-          alone_line (codes "Merge-Type: ti-text") refl (omega arith),
-          (alone_line type_line refl (omega arith), (literal (codes "Content-Length: ") (decimal (length (encode_utf8_all text))) refl (omega arith) (lacks_decimal (length (encode_utf8_all text))), tt)),
-        ),
-      ),
-    )
-head_full (Stored id) h =
-    (
-      alone_line (codes "HTTP/1.1 200 OK") refl (omega arith),
-      (literal (codes "Version: ") (spelled_id id) refl (omega arith) (lacks_id id h), (alone_line (codes "Content-Length: 0") refl (omega arith), tt)),
-    )
+      alone_line (codes "Merge-Type: ti-text") refl (omega arith),
+      (alone_line type_line refl (omega arith), (literal (codes "Content-Length: ") (decimal (length (encode_utf8_all text))) refl (omega arith) (lacks_decimal (length (encode_utf8_all text))), tt)),
+    ),
+  ),
+)
+head_full (Stored id) h = (
+  alone_line (codes "HTTP/1.1 200 OK") refl (omega arith),
+  (literal (codes "Version: ") (spelled_id id) refl (omega arith) (lacks_id id h), (alone_line (codes "Content-Length: 0") refl (omega arith), tt)),
+)
 head_full (Error status reason close) h =
-    let first : IsHeadLine (codes "HTTP/1.1 " ++ decimal status ++ codes " " ++ phrase_of status) =
-      (
-        lacks_append 10 (codes "HTTP/1.1 " ++ decimal status ++ codes " ") (phrase_of status)
-        (lacks_append 10 (codes "HTTP/1.1 " ++ decimal status) (codes " ") (lacks_append 10 (codes "HTTP/1.1 ") (decimal status) (lacks_all (codes "HTTP/1.1 ") refl) (lacks_decimal status)) (lacks_all (codes " ") refl))
-        (lacks_phrase status),
-        omega arith,
-      ) in
-    both ((codes "HTTP/1.1 " ++ decimal status ++ codes " " ++ phrase_of status) ∷ allow_lines status) _ (first, allowed (nat_eq status 405))
-    (
+    let first : IsHeadLine (codes "HTTP/1.1 " ++ decimal status ++ codes " " ++ phrase_of status) = (
+      lacks_append 10 (codes "HTTP/1.1 " ++ decimal status ++ codes " ") (phrase_of status)
+          (lacks_append 10 (codes "HTTP/1.1 " ++ decimal status) (codes " ") (lacks_append 10 (codes "HTTP/1.1 ") (decimal status) (lacks_all (codes "HTTP/1.1 ") refl) (lacks_decimal status)) (lacks_all (codes " ") refl))
+          (lacks_phrase status),
+      omega arith,
+    ) in
+    both ((codes "HTTP/1.1 " ++ decimal status ++ codes " " ++ phrase_of status) ∷ allow_lines status) _ (first, allowed (nat_eq status 405)) (
       alone_line type_line refl (omega arith),
       (literal (codes "Content-Length: ") (decimal (length reason + 1)) refl (omega arith) (lacks_decimal (length reason + 1)), tt),
     )

@@ -13,3 +13,6 @@ pub mod MapSizes
 pub mod Parts
 pub mod Openness
 pub mod StepLaws
+pub mod Judging
+pub mod Waiting
+pub mod Decoding

@@ -35,6 +35,7 @@ behind bytes b part d rest t x i w p e = go (shape x d p)
   where
     same : text_bytes t ++ part ≡ d ++ rest
     same = sym (w ∙ ap (λ z. z ++ part) i.spelled) ∙ e
+
     go : Shape x d → Behind t x part rest
     go (long m o j) = absurd (no_long d d rest [] part t m o i.text i.short (sym same ∙ sym (append-nil (text_bytes t ++ part))))
     go (headed k) =
@@ -62,6 +63,7 @@ open_chunked bytes b part t h i s w o x d rest p e = let k = behind bytes b part
   where
     zero_first : (n : ℕ) → 0 + n ≡ n
     zero_first n = omega arith
+
     says : (c : List ℕ) (y : Answer) → Verdict t c y → part ≡ c ++ rest → ⊥
     says c _ (many m f) r = let k = s.few in omega (arith, k, m)
     says c _ (bad m v f) r = v h s.whole
@@ -80,7 +82,7 @@ open_chunk most total c bytes i fits o (d ∷ ds) k l m rest each f x e =
     let one = same_chunk c d bytes _ i each.0 (e ∙ append_assoc (print_chunk d) (flat_map print_chunk ds) ((l ++ m) ++ rest)) in
     let n = length-append d.content (chunk_data ds) in
     let sum : total + length (chunk_data (d ∷ ds)) ≡ (total + length c.content) + length (chunk_data ds) =
-      (let z : length c.content ≡ length d.content = ap (λ (y : Chunk). length y.content) one.0 in omega (arith, n, z)) in
+    (let z : length c.content ≡ length d.content = ap (λ (y : Chunk). length y.content) one.0 in omega (arith, n, z)) in
     o ds k l m rest each.1 (rw (← sum) f) (rw (← sum) x) one.1
 
 -- nor do whole chunks
@@ -96,13 +98,12 @@ open_chunks most total (c ∷ cs) bytes each fits o =
 first_cut : (most total : ℕ) (ds : List Chunk) (k : Close) (l m rest : List ℕ) → AllByRecursion IsChunk ds → Closes most (total + length (chunk_data ds)) l m k
     → (first behind : List ℕ) × IsCut first × (flat_map print_chunk ds ++ ((l ++ m) ++ rest) ≡ first ++ behind)
 first_cut most total [] k l m rest each x = (l, m ++ rest, cut_of most (total + 0) l m k x, append_assoc l m rest)
-first_cut most total (d ∷ ds) k l m rest each x =
-    (
-      d.line,
-      (d.content ++ 13 ∷ 10 ∷ []) ++ (flat_map print_chunk ds ++ ((l ++ m) ++ rest)),
-      each.0.announces.cut,
-      append_assoc (print_chunk d) (flat_map print_chunk ds) ((l ++ m) ++ rest) ∙ append_assoc d.line (d.content ++ 13 ∷ 10 ∷ []) (flat_map print_chunk ds ++ ((l ++ m) ++ rest)),
-    )
+first_cut most total (d ∷ ds) k l m rest each x = (
+  d.line,
+  (d.content ++ 13 ∷ 10 ∷ []) ++ (flat_map print_chunk ds ++ ((l ++ m) ++ rest)),
+  each.0.announces.cut,
+  append_assoc (print_chunk d) (flat_map print_chunk ds) ((l ++ m) ++ rest) ∙ append_assoc d.line (d.content ++ 13 ∷ 10 ∷ []) (flat_map print_chunk ds ++ ((l ++ m) ++ rest)),
+)
 
 -- a line begun decides nothing
 pub open_line : (most total : ℕ) (bytes : List ℕ) → Lacks 10 bytes → length bytes < 256 → OpenAfter most total bytes
@@ -156,6 +157,7 @@ open_behind most total l content end a some fits short cr [] k v m rest each f x
         empty (z ∷ zs) l = absurd (omega (arith, l))
     ends (y ∷ z ∷ []) r dep q = let n = ap length q in omega (arith, n, short)
     ends (y ∷ z ∷ w ∷ ws) r dep q = dep
+
     go : (j : Close) → Closes most (total + 0) v m j → Announces v (length content) → content ++ end ≡ m ++ rest → ⊥
     go _ (last b t) c q = let z = same_size v 0 (length content) b c in omega (arith, z, some)
     go _ (unread d w r) c q = w c.line c.reads

@@ -43,13 +43,13 @@ front_within bytes front rest e = let k = ap length e ∙ length-append front re
 -- at a line
 
 pub line_open : (passed out bytes : List ℕ) → Lacks 10 bytes → length bytes < 256 → IsAtLine passed out → Leaves (Open Line) passed bytes out out
-line_open passed out bytes h short a =
-    (
-      open_there a.chunks passed [] bytes a.each a.fits (a.passed_is ∙ sym (append-nil (flat_map print_chunk a.chunks))) (open_line 2_097_152 (length (chunk_data a.chunks)) bytes h short),
-      refl,
-      a,
-      tt,
-    )
+line_open passed out bytes h short a = (
+  open_there a.chunks passed [] bytes a.each a.fits (a.passed_is ∙ sym (append-nil (flat_map print_chunk a.chunks))) (open_line 2_097_152 (length (chunk_data a.chunks)) bytes h short),
+  omega (arith, short),
+  refl,
+  a,
+  tt,
+)
 
 against : (close : Close) (passed out bytes line more rest : List ℕ) (a : IsAtLine passed out) → Closes 2_097_152 (length (chunk_data a.chunks)) line more close → bytes ≡ (line ++ more) ++ rest → IsAgainst close (passed ++ bytes)
 against close passed out bytes line more rest a c e = record {
@@ -79,12 +79,15 @@ pub line_last : (passed out bytes line rest : List ℕ) (n : ℕ) → Announces 
     → Leaves (Passed (length line) (Trailer (record { line = 0; seen = 0; full = 0 }))) passed bytes out out
 line_last passed out bytes line rest n a zero e at =
     let taken = taken_front bytes line rest e in
-    let announced : Announces line 0 = rw zero at a in
-    (
+    let announced : Announces line 0 = rw zero at a in (
       cut_some line a.cut,
       front_within bytes line rest e,
       record {
-        chunks = at.chunks; line = line; each = at.each; announces = announced; fits = at.fits;
+        chunks = at.chunks;
+        line = line;
+        each = at.each;
+        announces = announced;
+        fits = at.fits;
         passed_is = ap (λ z. passed ++ z) taken ∙ ap (λ z. z ++ line) at.passed_is;
         out_is = at.out_is;
       },
@@ -98,12 +101,17 @@ line_data passed out bytes line rest n total a some few size e at =
     let z = ap length at.out_is in
     let f = at.fits in
     let p = zero_first n in
-    let positive : 0 < n = up n some in
-    (
+    let positive : 0 < n = up n some in (
       cut_some line a.cut,
       front_within bytes line rest e,
       record {
-        chunks = at.chunks; line = line; begun = []; each = at.each; announces = rw p a; some = rw p positive; fits = omega (arith, z, f, few, size);
+        chunks = at.chunks;
+        line = line;
+        begun = [];
+        each = at.each;
+        announces = rw p a;
+        some = rw p positive;
+        fits = omega (arith, z, f, few, size);
         passed_is = ap (λ z. passed ++ z) taken ∙ ap (λ z. z ++ line) at.passed_is ∙ ap (λ z. flat_map print_chunk at.chunks ++ z) (sym (append-nil line));
         out_is = at.out_is ∙ sym (append-nil (chunk_data at.chunks));
       },
@@ -119,26 +127,28 @@ few_of : (a b n : ℕ) → a + n ≤ b → a ≤ b
 few_of a b n l = omega (arith, l)
 
 pub data_open : (left : ℕ) (passed out bytes : List ℕ) → 0 < left → length bytes ≡ 0 → IsInData left passed out → Leaves (Open (Data left)) passed bytes out out
-data_open left passed out bytes some none d =
-    (
-      open_there d.chunks passed (d.line ++ d.begun) bytes d.each (few_of _ _ _ d.fits) d.passed_is
+data_open left passed out bytes some none d = (
+  open_there d.chunks passed (d.line ++ d.begun) bytes d.each (few_of _ _ _ d.fits) d.passed_is
       (subst (OpenAfter 2_097_152 (length (chunk_data d.chunks))) (sym (append_assoc d.line d.begun bytes))
       (open_data 2_097_152 (length (chunk_data d.chunks)) (length d.begun + left) d.line (d.begun ++ bytes) d.announces d.some d.fits (let k = length-append d.begun bytes in omega (arith, k, none, some)))),
-      refl,
-      d,
-      tt,
-    )
+  omega (arith, none),
+  refl,
+  d,
+  tt,
+)
 
 pub data_more : (left n : ℕ) (passed out new bytes : List ℕ) → 0 < n → n ≤ left → n ≤ length bytes → new ≡ out ++ take n bytes → IsInData left passed out → Leaves (Passed n (Data (left - n))) passed bytes out new
 data_more left n passed out new bytes some few within put d =
     let taken = length-take n bytes in
     let longer = length-append d.begun (take n bytes) in
-    let size : length (d.begun ++ take n bytes) + (left - n) ≡ length d.begun + left = omega (arith, taken, longer, few, within) in
-    (
+    let size : length (d.begun ++ take n bytes) + (left - n) ≡ length d.begun + left = omega (arith, taken, longer, few, within) in (
       some,
       within,
       record {
-        chunks = d.chunks; line = d.line; begun = d.begun ++ take n bytes; each = d.each;
+        chunks = d.chunks;
+        line = d.line;
+        begun = d.begun ++ take n bytes;
+        each = d.each;
         announces = rw size d.announces;
         some = rw size d.some;
         fits = rw size d.fits;
@@ -155,11 +165,11 @@ bare_data n = omega arith
 
 pub behind_open : (passed out bytes : List ℕ) → length bytes < 2 → ((x : ℕ) → bytes ≡ x ∷ [] → x ≡ 13) → IsInData 0 passed out → Leaves (Open (Data 0)) passed bytes out out
 behind_open passed out bytes short cr d =
-    let z = bare_data (length d.begun) in
-    (
+    let z = bare_data (length d.begun) in (
       open_there d.chunks passed (d.line ++ d.begun) bytes d.each (few_of _ _ _ d.fits) d.passed_is
-      (subst (OpenAfter 2_097_152 (length (chunk_data d.chunks))) (sym (append_assoc d.line d.begun bytes))
-      (open_behind 2_097_152 (length (chunk_data d.chunks)) d.line d.begun bytes (rw z at d.announces) (rw z at d.some) (rw z at d.fits) short cr)),
+          (subst (OpenAfter 2_097_152 (length (chunk_data d.chunks))) (sym (append_assoc d.line d.begun bytes))
+          (open_behind 2_097_152 (length (chunk_data d.chunks)) d.line d.begun bytes (rw z at d.announces) (rw z at d.some) (rw z at d.fits) short cr)),
+      omega (arith, short),
       refl,
       d,
       tt,
@@ -173,8 +183,12 @@ behind_bad passed out bytes end rest dep e d =
       rest = rest;
       chunks = d.chunks;
       ends = record {
-        each = d.each; fits = few_of _ _ _ d.fits; line = d.line; more = d.begun ++ end;
-        closes = departs d.begun end (rw z at d.announces) (rw z at d.some) (rw z at d.fits) refl dep; whole = refl;
+        each = d.each;
+        fits = few_of _ _ _ d.fits;
+        line = d.line;
+        more = d.begun ++ end;
+        closes = departs d.begun end (rw z at d.announces) (rw z at d.some) (rw z at d.fits) refl dep;
+        whole = refl;
       };
       whole = ap (λ y. y ++ bytes) d.passed_is ∙ ap (λ y. (flat_map print_chunk d.chunks ++ (d.line ++ d.begun)) ++ y) e ∙ regroup (flat_map print_chunk d.chunks) d.line d.begun end rest;
     }
@@ -192,13 +206,12 @@ behind_done passed out bytes rest e d =
     let c : Chunk = record { line = d.line; content = d.begun } in
     let taken : take 2 bytes ≡ 13 ∷ 10 ∷ [] = taken_front bytes (13 ∷ 10 ∷ []) rest e in
     let gives : chunk_data (d.chunks ++ c ∷ []) ≡ chunk_data d.chunks ++ d.begun =
-      flat_map-append (λ (y : Chunk). y.content) d.chunks (c ∷ []) ∙ ap (λ y. chunk_data d.chunks ++ y) (append-nil d.begun) in
+    flat_map-append (λ (y : Chunk). y.content) d.chunks (c ∷ []) ∙ ap (λ y. chunk_data d.chunks ++ y) (append-nil d.begun) in
     let prints : flat_map print_chunk (d.chunks ++ c ∷ []) ≡ flat_map print_chunk d.chunks ++ print_chunk c =
-      flat_map-append print_chunk d.chunks (c ∷ []) ∙ ap (λ y. flat_map print_chunk d.chunks ++ y) (append-nil (print_chunk c)) in
+    flat_map-append print_chunk d.chunks (c ∷ []) ∙ ap (λ y. flat_map print_chunk d.chunks ++ y) (append-nil (print_chunk c)) in
     let size = ap length gives ∙ length-append (chunk_data d.chunks) d.begun in
     let fits = d.fits in
-    let long = ap length e in
-    (
+    let long = ap length e in (
       omega arith,
       omega (arith, long),
       record {
@@ -217,26 +230,28 @@ behind_done passed out bytes rest e d =
 -- in a trailer
 
 pub trailer_open : (look : Look) (passed out bytes : List ℕ) → length bytes < 16_384 → HasNoBlock bytes → IsLooked look bytes → IsInTrailer passed out → Leaves (Open (Trailer look)) passed bytes out out
-trailer_open look passed out bytes short none looked t =
-    (
-      open_there t.chunks passed t.line bytes t.each t.fits t.passed_is (open_trailer 2_097_152 (length (chunk_data t.chunks)) t.line bytes t.announces short none),
-      refl,
-      t,
-      looked,
-    )
+trailer_open look passed out bytes short none looked t = (
+  open_there t.chunks passed t.line bytes t.each t.fits t.passed_is (open_trailer 2_097_152 (length (chunk_data t.chunks)) t.line bytes t.announces short none),
+  short,
+  refl,
+  t,
+  looked,
+)
 
 pub trailer_done : (look : Look) (end : ℕ) (passed out bytes : List ℕ) → end ≤ 16_384 → IsBlockAt end look bytes → IsInTrailer passed out → Leaves (Done end) passed bytes out out
 trailer_done look end passed out bytes short b t =
     let whole = b.whole in
     let taken : take end bytes ≡ _ = ap (λ z. take z bytes) b.end_is ∙ taken_front bytes _ b.rest whole in
     let end_is = b.end_is in
-    let within = front_within bytes _ b.rest whole in
-    (
+    let within = front_within bytes _ b.rest whole in (
       omega (arith, end_is, within),
       record {
         chunks = t.chunks;
         ends = record {
-          each = t.each; fits = t.fits; line = t.line; more = take end bytes;
+          each = t.each;
+          fits = t.fits;
+          line = t.line;
+          more = take end bytes;
           closes = last t.announces (record { full = b.full; last = b.last; each = b.each; ends = b.ends; whole = taken; short = (let k = ap length taken in omega (arith, k, end_is, short)) });
           whole = ap (λ z. z ++ take end bytes) t.passed_is ∙ append_assoc (flat_map print_chunk t.chunks) t.line (take end bytes);
         };
@@ -305,14 +320,13 @@ pub cut_here : (bytes content after : List ℕ) → Lacks 10 content → take (m
 cut_here bytes content after h e =
     let n = min (length bytes) 256 in
     let whole : bytes ≡ (content ++ 10 ∷ []) ++ (after ++ drop n bytes) =
-      sym (take-append-drop n bytes) ∙ ap (λ z. z ++ drop n bytes) e ∙ regroup content after (drop n bytes) in
+    sym (take-append-drop n bytes) ∙ ap (λ z. z ++ drop n bytes) e ∙ regroup content after (drop n bytes) in
     let size = length-append content (10 ∷ []) in
     let one : length content + 1 ≡ length (content ++ 10 ∷ []) = omega (arith, size) in
     let is : take (length content + 1) bytes ≡ content ++ 10 ∷ [] = ap (λ z. take z bytes) one ∙ taken_front bytes (content ++ 10 ∷ []) _ whole in
     let long = ap length e ∙ length-append content (10 ∷ after) in
     let most = length-take n bytes in
-    let short = ap length is in
-    (
+    let short = ap length is in (
       drop (length content + 1) bytes,
       inl (content, h, is, omega (arith, short, size, long, most)),
       sym (take-append-drop (length content + 1) bytes),

@@ -10,3 +10,4 @@ pub mod Looks
 pub mod HeadReads
 pub mod Steps
 pub mod Replies
+pub mod Waits

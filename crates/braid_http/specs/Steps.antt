@@ -72,7 +72,7 @@ pub record IsAgainst (close : Close) (bytes : List ℕ) : Type 0 where
 -- what a step leaves, where `passed` stands before the bytes
 abbrev pub Leaves : Fed → List ℕ → List ℕ → List ℕ → List ℕ → Type 0
 Leaves (Passed n place) passed bytes old new = (0 < n) × (n ≤ length bytes) × IsAfter place (passed ++ take n bytes) new × IsPlace place (drop n bytes)
-Leaves (Open place) passed bytes old new = OpenAfter 2_097_152 0 (passed ++ bytes) × (new ≡ old) × IsAfter place passed new × IsPlace place bytes
+Leaves (Open place) passed bytes old new = OpenAfter 2_097_152 0 (passed ++ bytes) × (length bytes < 16_384) × (new ≡ old) × IsAfter place passed new × IsPlace place bytes
 Leaves (Done n) passed bytes old new = (n ≤ length bytes) × IsChunked 2_097_152 new (passed ++ take n bytes)
 Leaves (Refused BadChunk) passed bytes old new = IsAgainst bad_chunk (passed ++ bytes)
 Leaves (Refused TooLong) passed bytes old new = IsAgainst too_long (passed ++ bytes)

@@ -84,13 +84,7 @@ fn size_of_line(line: &[u8]) -> Option<u64>
     ensures size { MatchOption result ((l : ChunkLine) → ¬ (ReadsChunkLine line.now l [])) (λ n. Announces line.now n) }
 {
     match parse_chunk_size(line) {
-        Ok(Status::Complete((len, size))) => {
-            if len == line.len() {
-                Some(size)
-            } else {
-                None
-            }
-        }
+        Ok(Status::Complete((len, size))) => { if len == line.len() { Some(size) } else { None } }
         _ => None,
     }
 }

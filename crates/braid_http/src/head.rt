@@ -11,7 +11,9 @@ ghost use Rattle.braid_http.specs.HeadReads.{IsGood, IsGoodAt, Holds};
 
 use http::Method;
 use http::method::MethodError;
-use http_header::{HeaderMap, HeaderMapError, HeaderName, HeaderNameError, HeaderValue, HeaderValueError};
+use http_header::{
+    HeaderMap, HeaderMapError, HeaderName, HeaderNameError, HeaderValue, HeaderValueError,
+};
 use httparse::Status;
 use httparse::spans::{EMPTY_HEADER_SPAN, HeaderSpan, parse_request};
 use std::alloc::Global;
@@ -38,7 +40,11 @@ pub struct Head {
 }
 
 /// One field line's name and value.
-fn field_of(alloc: Global, name: &[u8], value: &[u8]) -> Result<(HeaderName, HeaderValue), HeadFault>
+fn field_of(
+    alloc: Global,
+    name: &[u8],
+    value: &[u8],
+) -> Result<(HeaderName, HeaderValue), HeadFault>
     ensures ok { IfOk result (λ f. (f.0 ≡ lowercase name.now) × (f.1 ≡ plain_value value.now)) }
     ensures good { OnOk result (IsGood (name.now, value.now)) }
     ensures bad { IsErrOf result HeadFault.Bad → ¬ (IsGood (name.now, value.now)) }
@@ -57,7 +63,12 @@ fn field_of(alloc: Global, name: &[u8], value: &[u8]) -> Result<(HeaderName, Hea
 
 /// Adds the field that a span names. A map of 64 names at most has room.
 #[tactic(auto, unfolding(crate::specs::Fields::append_named), using(crate::proofs::MapSizes::count_append, crate::proofs::MapSizes::length_append_le))]
-fn add_field(fields: &mut HeaderMap<HeaderValue>, alloc: Global, bytes: &[u8], span: HeaderSpan) -> Result<(), HeadFault>
+fn add_field(
+    fields: &mut HeaderMap<HeaderValue>,
+    alloc: Global,
+    bytes: &[u8],
+    span: HeaderSpan,
+) -> Result<(), HeadFault>
     requires within { IsHeaderWithin (length bytes.now) span }
     requires names { length fields.old ≤ 64 }
     requires values { value_count fields.old ≤ 64 }
@@ -77,7 +88,11 @@ fn add_field(fields: &mut HeaderMap<HeaderValue>, alloc: Global, bytes: &[u8], s
 
 /// The fields that spans name, in their order.
 #[tactic(auto, using(crate::proofs::FieldLemmas::one_more))]
-fn fields_at(alloc: Global, bytes: &[u8], spans: &[HeaderSpan]) -> Result<HeaderMap<HeaderValue>, HeadFault>
+fn fields_at(
+    alloc: Global,
+    bytes: &[u8],
+    spans: &[HeaderSpan],
+) -> Result<HeaderMap<HeaderValue>, HeadFault>
     requires within { All (IsHeaderWithin (length bytes.now)) spans.now }
     requires few { length spans.now ≤ 64 }
     ensures bad { IsErrOf result HeadFault.Bad → ¬ (All (IsGoodAt bytes.now) spans.now) }

@@ -16,6 +16,7 @@ mod head;
 mod held;
 pub mod laws;
 mod looks;
+mod reading;
 mod refusal;
 mod reply;
 mod request;

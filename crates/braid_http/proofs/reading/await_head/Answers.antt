@@ -1,0 +1,35 @@
+use Rattle.std.proofs.Common.{◌∙◌, refl}
+use Rattle.std.proofs.lemmas.Result.{err_from_is_err_and}
+use Rattle.braid_http.proofs.Looking.{head_new, head_more}
+use Rattle.braid_http.proofs.Openness.{open_head}
+use Rattle.braid_http.proofs.Waiting.{took_none, took_more, breaks_head, long_stops, if_judged}
+use Rattle.braid_http.proofs.reading.await_head.Goals as goal
+
+pub waiting-init : goal.waiting-init
+waiting-init g c = record { took = took_none _ _; looked = rw c.new-look.ensures.value (head_new _); kept = refl }
+
+pub returns-in-Some-clause-err : goal.returns-in-Some-clause-err
+returns-in-Some-clause-err g c = if_judged _ _ _ _ _ _ c.waiting.invariant.took c.get-bytes.ensures.value c.judge.ensures.err
+
+pub returns-then-bytes-ge-MOST_HEAD-clause-err : goal.returns-then-bytes-ge-MOST_HEAD-clause-err
+returns-then-bytes-ge-MOST_HEAD-clause-err g c =
+    let v = c.get-bytes.ensures.value in
+    long_stops _ _ _ _ c.waiting.invariant.took (rw v at c.if-bytes-ge-MOST_HEAD.true) (rw v at c.in_default.ensures.found.0)
+
+pub waiting-preserved : goal.waiting-preserved
+waiting-preserved g c =
+    let v = c.get-bytes.ensures.value in
+    let p = c.in_ok-read_for_head.ensures.ok in
+    let o = open_head _ (rw v at c.if-bytes-ge-MOST_HEAD.false) (rw v at c.in_default.ensures.found.0) in
+    record {
+      took = took_more _ _ _ _ _ _ _ c.waiting.invariant.took o p.1 p.2 p.3;
+      looked = rw p.2 (head_more _ _ _ (rw v at c.in_default.ensures.found.1));
+      kept = c.in_ok-read_for_head.ensures.kept ∙ c.waiting.invariant.kept;
+    }
+
+pub returns-in_err-read_for_head-clause-err : goal.returns-in_err-read_for_head-clause-err
+returns-in_err-read_for_head-clause-err g c =
+    let p = err_from_is_err_and c.from_residual.result c.from_residual.ensures.1 in
+    let v = c.get-bytes.ensures.value in
+    let o = open_head _ (rw v at c.if-bytes-ge-MOST_HEAD.false) (rw v at c.in_default.ensures.found.0) in
+    rw (p.1, p.2) (breaks_head _ _ _ _ _ _ _ c.waiting.invariant.took o c.in_err-read_for_head.ensures.err)
