@@ -29,3 +29,6 @@ pub use reply::{Reply, closing, reply_bytes};
 pub use request::{Asked, Request};
 pub use stop::Stop;
 pub use wire::Wire;
+
+#[cfg(test)]
+mod tests;
