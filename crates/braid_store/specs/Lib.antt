@@ -1,0 +1,5 @@
+pub mod Books
+pub mod Answers
+pub mod Reads
+pub mod Cursors
+pub mod Inside

@@ -1,0 +1,1 @@
+//! A book that is put to and read.
