@@ -85,10 +85,11 @@ abbrev pub counted_answer : Option Which → Put
 counted_answer (Some which) = Full which (limit_of which)
 counted_answer None = New
 
--- the answer as a function: the refusal of the path's history, then the first count over its limit, then New
+-- the refusal of the path's history, where there is one, and else the first count over its limit, and else New
+abbrev pub answered : List Entry → Entry → Option Accept → Put
+answered B e (Some a) = refused_as a
+answered B e None = counted_answer (first_over (counts_at (B ++ e ∷ []) e.path))
+
+-- the answer as a function
 abbrev pub put_answer : List Entry → Entry → Put
-put_answer B e = answered (refusal_to (of_path B e.path) e.update)
-  where
-    answered : Option Accept → Put
-    answered (Some a) = refused_as a
-    answered None = counted_answer (first_over (counts_at (B ++ e ∷ []) e.path))
+put_answer B e = answered B e (refusal_to (of_path B e.path) e.update)

@@ -1,0 +1,5 @@
+pub mod Paths
+pub mod Sums
+pub mod Counted
+pub mod Judged
+pub mod Later
