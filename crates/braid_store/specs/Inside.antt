@@ -1,7 +1,8 @@
 -- What a book keeps.
-use Rattle.std.specs.Prelude.{◌≡◌, ◌≢◌, ℕ, ◌-◌, ◌≤◌, List, [], ◌∷◌, ◌++◌, Contains, Option, Some, None, IsSome, map, length, slice_get}
+use Rattle.std.specs.Prelude.{◌≡◌, ◌≢◌, ℕ, ◌-◌, ◌<◌, ◌≤◌, List, [], ◌∷◌, ◌++◌, Contains, Option, Some, None, IsSome, map, length, slice_get, vec_capacity}
 use Rattle.std.specs.Option.{option_map, option_and_then}
 use Rattle.std.specs.List.{AllByRecursion, filter_map}
+use Rattle.indexmap.specs.IndexMap.{spare}
 use Rattle.braid_change.specs.Updates.{UpdateView}
 use Rattle.braid_text.specs.Histories.{elements_of, deletions_of}
 use Rattle.braid_text.specs.declared.room.Room.{Room}
@@ -41,13 +42,17 @@ pub record IsBook (B : List Entry) : Type 0 where
   pub few_elements : sum_of (λ (H : List UpdateView). length (elements_of H)) B ≤ 16_777_216
   pub few_deletions : sum_of (λ (H : List UpdateView). length (deletions_of H)) B ≤ 33_554_432
 
--- what is kept is the resources of the book, with the place of each entry and the totals over all paths
-pub record IsKept (c : Contents) : Type 0 where
-  pub placed : ArePlaced c.resources.entries c.places.items
-  pub resources : c.resources.entries ≡ resources_of (entries_in c)
-  pub elements : c.elements ≡ sum_of (λ (H : List UpdateView). length (elements_of H)) (entries_in c)
-  pub deletions : c.deletions ≡ sum_of (λ (H : List UpdateView). length (deletions_of H)) (entries_in c)
-  pub book : IsBook (entries_in c)
+-- resources by path, places and totals are those of a book: the resources of its paths, a place for each entry, and the sums over all paths
+pub record KeepsBook (rs : List (List ℕ × List UpdateView)) (places : List Place) (elements deletions : ℕ) : Type 0 where
+  pub placed : ArePlaced rs places
+  pub resources : rs ≡ resources_of (entries_at rs places)
+  pub elements_sum : elements ≡ sum_of (λ (H : List UpdateView). length (elements_of H)) (entries_at rs places)
+  pub deletions_sum : deletions ≡ sum_of (λ (H : List UpdateView). length (deletions_of H)) (entries_at rs places)
+  pub book : IsBook (entries_at rs places)
+
+-- what is kept is a book
+abbrev pub IsKept : Contents → Type 0
+IsKept c = KeepsBook c.resources.entries c.places.items c.elements c.deletions
 
 -- what the limits of a server leave beside a book; the width is for one path
 abbrev pub room_beside : List Entry → Room
@@ -66,10 +71,22 @@ pub record Puts (old new : Contents) (e : Entry) (a : Put) : Type 0 where
   pub known : Contains (of_path (entries_in old) e.path) e.update → a ≡ Known
   pub kept : IsKept new
 
+-- a resource that may be added: its one update is new to the book
+abbrev pub MayAdd : Contents → List ℕ → ℕ → List UpdateView → Type 0
+MayAdd c path by us = (u : UpdateView) × (us ≡ u ∷ []) × IsPut (entries_in c) (record { path = path; by = by; update = u }) New
+
 -- what a resource that was added leaves: an entry of its one update
 abbrev pub Adds : Contents → Contents → List ℕ → ℕ → List UpdateView → Type 0
 Adds old new path by us = (u : UpdateView) → us ≡ u ∷ [] → entries_in new ≡ entries_in old ++ (record { path = path; by = by; update = u }) ∷ []
 
--- a resource that may be added: its one update is new to the book
-abbrev pub MayAdd : Contents → List ℕ → ℕ → List UpdateView → Type 0
-MayAdd old path by us = (u : UpdateView) × (us ≡ u ∷ []) × IsPut (entries_in old) (record { path = path; by = by; update = u }) New
+-- there is room for one resource and one entry more
+pub record HasSpare (c : Contents) : Type 0 where
+  pub resource : 0 < spare c.resources
+  pub place : length c.places.items < vec_capacity c.places
+
+-- nothing but room has changed
+pub record SameContents (old new : Contents) : Type 0 where
+  pub resources : new.resources.entries ≡ old.resources.entries
+  pub places : new.places.items ≡ old.places.items
+  pub elements : new.elements ≡ old.elements
+  pub deletions : new.deletions ≡ old.deletions

@@ -1,8 +1,8 @@
 //! What a book keeps: resources by path, and where each entry is.
 
-ghost use Rattle.std.specs.Prelude.{◌≡◌, ◌≢◌, ◌↔◌, ◌<◌, [], List, ℕ, Some, IfSome, IfNone, OnOk, OnErr, IsTrue, Contains, slice_get, length};
+ghost use Rattle.std.specs.Prelude.{◌≡◌, ◌≢◌, ◌↔◌, ◌<◌, [], List, ℕ, Some, IfSome, IfNone, IfOk, IsTrue, Contains, slice_get, length};
 ghost use Rattle.braid_store.specs.Books.{of_path, paths_of};
-ghost use Rattle.braid_store.specs.Inside.{entries_in, IsKept, Puts, Adds, MayAdd, room_beside};
+ghost use Rattle.braid_store.specs.Inside.{entries_in, IsKept, Puts, MayAdd, Adds, HasSpare, SameContents, room_beside};
 
 use crate::limits::{MOST_DELETIONS, MOST_ELEMENTS, MOST_RESOURCES, MOST_VERSIONS, MOST_WIDTH};
 use crate::path::Path;
@@ -90,33 +90,37 @@ impl Contents {
                     limit: MOST_RESOURCES,
                 }
             }
-            Accept::New => match self.add(alloc, path, by, resource) {
-                Ok(()) => Put::New,
+            Accept::New => match self.make_room(alloc, path) {
+                Ok(path) => {
+                    self.push(path, by, resource);
+                    Put::New
+                }
                 Err(_) => Put::Memory,
             },
             answer => answer_of(answer),
         }
     }
 
-    /// Adds a resource that has one update.
-    fn add(
-        &mut self,
-        alloc: Global,
-        path: &Bytes,
-        by: u32,
-        resource: Resource,
-    ) -> Result<(), Memory>
-        requires kept { IsKept self.old }
-        requires absent { of_path (entries_in self.old) path.now ≡ [] }
-        requires may { MayAdd self.old path.now by resource }
-        ensures ok { OnOk result (Adds self.old self.new path.now by resource) }
-        ensures err { OnErr result (entries_in self.new ≡ entries_in self.old) }
-        ensures kept { IsKept self.new }
+    /// A copy of a path for a key, and room for one resource and one entry more.
+    fn make_room(&mut self, alloc: Global, path: &Bytes) -> Result<Path, Memory>
+        ensures ok { IfOk result (λ key. (key ≡ path.now) × HasSpare self.new) }
+        ensures same { SameContents self.old self.new }
     {
-        let path = Path::of(alloc, path)?;
+        let key = Path::of(alloc, path)?;
         self.resources.reserve(1)?;
         self.places.reserve(1)?;
-        // From here on nothing can fail.
+        Ok(key)
+    }
+
+    /// Adds a resource that has one update.
+    fn push(&mut self, path: Path, by: u32, resource: Resource)
+        requires kept { IsKept self.old }
+        requires absent { of_path (entries_in self.old) path ≡ [] }
+        requires may { MayAdd self.old path by resource }
+        requires spare { HasSpare self.old }
+        ensures adds { Adds self.old self.new path by resource }
+        ensures kept { IsKept self.new }
+    {
         let place = Place {
             resource: self.resources.len() as u32,
             number: 0,
@@ -128,7 +132,6 @@ impl Contents {
         let Ok(_) = self.resources.insert(path, resource) else {
             unreachable!()
         };
-        Ok(())
     }
 
     /// What the limits leave beside the entries.
