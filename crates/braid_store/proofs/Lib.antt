@@ -6,3 +6,4 @@ pub mod Later
 pub mod Found
 pub mod Grown
 pub mod Fitting
+pub mod Keeping

@@ -1,6 +1,7 @@
 //! What a book keeps: resources by path, and where each entry is.
 
 ghost use Rattle.std.specs.Prelude.{◌≡◌, ◌≢◌, ◌↔◌, ◌<◌, [], List, ℕ, Some, IfSome, IfNone, IfOk, IsTrue, Contains, slice_get, length};
+ghost use Rattle.braid_text.specs.Histories.{IsLegal};
 ghost use Rattle.braid_store.specs.Books.{of_path, paths_of};
 ghost use Rattle.braid_store.specs.Inside.{entries_in, IsKept, Puts, MayAdd, Adds, HasSpare, SameContents, room_beside};
 
@@ -67,13 +68,15 @@ impl Contents {
         };
         let elements = resource.elements();
         let deletions = resource.deletions();
-        let answer = resource.accept(alloc, update, &room);
-        if let Accept::New = answer {
-            self.elements += (resource.elements() - elements) as u64;
-            self.deletions += (resource.deletions() - deletions) as u64;
-            self.places.push_reserved(place);
+        match resource.accept(alloc, update, &room) {
+            Accept::New => {
+                self.elements += (resource.elements() - elements) as u64;
+                self.deletions += (resource.deletions() - deletions) as u64;
+                self.places.push_reserved(place);
+                Put::New
+            }
+            answer => answer_of(answer),
         }
-        answer_of(answer)
     }
 
     /// Puts an update to a path that has no entry.
@@ -150,6 +153,7 @@ impl Contents {
 
 /// Whether a resource holds an update. It takes no memory.
 fn is_held(resource: &Resource, update: &Update) -> bool
+    requires legal { IsLegal resource.now }
     ensures held { IsTrue result ↔ Contains resource.now update.now }
 {
     match resource.find(update.id()) {
