@@ -4,7 +4,7 @@ use Rattle.std.specs.List.{slice_get}
 use Rattle.std.specs.Map.{lookup, values_of}
 use Rattle.std.specs.Option.{option_map}
 use Rattle.std.proofs.lemmas.List.{length-map}
-use Rattle.std.proofs.lemmas.Option.{slice_get-map, slice_get_within, get_or_from_slice_get, none-some, same_Some}
+use Rattle.std.proofs.lemmas.Option.{slice_get-map, slice_get_within, get_or_from_slice_get, slice_get-get_or, none-some, same_Some}
 use Rattle.indexmap.specs.IndexMap.{set_value_at}
 use Rattle.braid_ids.proofs.Members.{member_reverse, member_at, contains_member, slice_get_push}
 use Rattle.braid_change.specs.Updates.{UpdateView}
@@ -19,12 +19,13 @@ use Rattle.braid_store.specs.declared.put.Put.{Put}
 use Rattle.braid_store.specs.declared.put.Put.TheVariants.{New, Known}
 use Rattle.braid_store.specs.Answers.{IsPut}
 use Rattle.braid_store.specs.Books.{same_path, of_path, paths_of, sum_of}
-use Rattle.braid_store.specs.Inside.{entries_at, entries_in, resources_of, KeepsBook, IsKept, Puts, SameContents, room_beside}
+use Rattle.braid_store.specs.Inside.{entries_at, entries_in, resources_of, KeepsBook, IsKept, Puts, MayAdd, Adds, SameContents, room_beside}
 use Rattle.braid_store.proofs.Paths.{absent_from_history, paths_new, paths_there}
 use Rattle.braid_store.proofs.Sums.{sum_push}
 use Rattle.braid_store.proofs.Found.{lookup_finds}
 use Rattle.braid_store.proofs.Grown.{placed_len, there, resource_grown, resource_added, IsPlaceFor, Grows, grows}
 use Rattle.braid_store.proofs.Counted.{elements_len, deletions_len}
+use Rattle.braid_store.proofs.Fitting.{none_contained}
 
 -- the update that has an identifier is the one that is sought, where the history holds that one
 pub contained : (H : List UpdateView) (n : ℕ) (held u : UpdateView) → slice_get H n ≡ Some held → held ≡ u → Contains H u
@@ -167,3 +168,30 @@ put_new old new e is fresh grown = record {
 
 pub same_head : (u w : UpdateView) → u ∷ [] ≡ w ∷ [] → u ≡ w
 same_head u w h = cc
+
+-- there is a history at each number of a path
+pub history_there : (rs : List (List ℕ × List UpdateView)) (B : List Entry) (n : ℕ) (H : List UpdateView) → rs ≡ resources_of B → n < length (paths_of B) → slice_get (values_of rs) n ≡ Some H → (p : List ℕ) × (slice_get (paths_of B) n ≡ Some p) × (H ≡ of_path B p)
+history_there rs B n H e l h = let at = slice_get-get_or (paths_of B) n [] l in (_, at, history_at rs B n _ H e at h)
+
+-- nothing changed
+pub same_contents : (c : Contents) → SameContents c c
+same_contents c = record { resources = refl; places = refl; elements = refl; deletions = refl }
+
+-- contents with the same entries
+pub entries_same : (old new : Contents) → SameContents old new → entries_in new ≡ entries_in old
+entries_same old new same = λ j. entries_at (same.resources j) (same.places j)
+
+-- the first update of a path may be added, and leaves what New leaves
+pub may_add : (old new : Contents) (path key : List ℕ) (by : ℕ) (u : UpdateView) (us : List UpdateView) → SameContents old new → key ≡ path → us ≡ u ∷ [] → IsPut (entries_in old) (first_entry path by u) New → MayAdd new key by us
+may_add old new path key by u us same is one put =
+    (u, one, subst (λ (k : List ℕ). IsPut (entries_in new) (first_entry k by u) New) (sym is) (subst (λ (B : List Entry). IsPut B (first_entry path by u) New) (sym (entries_same old new same)) put))
+
+pub put_first_new : (old middle new : Contents) (path key : List ℕ) (by : ℕ) (u : UpdateView) (us : List UpdateView) → SameContents old middle → key ≡ path → us ≡ u ∷ [] → IsPut (entries_in old) (first_entry path by u) New → of_path (entries_in old) path ≡ []
+    → Adds middle new key by us → IsKept new → Puts old new (first_entry path by u) New
+put_first_new old middle new path key by u us same is one put absent adds kept = record {
+  answer = put;
+  taken = λ h. adds u one ∙ ap (λ (B : List Entry). B ++ first_entry key by u ∷ []) (entries_same old middle same) ∙ ap (λ (k : List ℕ). entries_in old ++ first_entry k by u ∷ []) is;
+  same = λ h. absurd (h refl);
+  known = λ h. absurd (none_contained (of_path (entries_in old) path) u absent h);
+  kept = kept;
+}

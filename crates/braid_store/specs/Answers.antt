@@ -71,6 +71,16 @@ refused_as (accepts.OutOfRange patch len) = OutOfRange patch len
 refused_as (accepts.Full which need room) = Full which (limit_of which)
 refused_as accepts.Memory = Memory
 
+-- the same of a resource that would be one too many: of the counts, that of the resources is the first
+abbrev pub refused_when_full : Accept → Put
+refused_when_full accepts.New = Full Resources 4_096
+refused_when_full accepts.Known = Known
+refused_when_full (accepts.Clash v) = Clash v
+refused_when_full (accepts.UnknownParent v) = UnknownParent v
+refused_when_full (accepts.OutOfRange patch len) = OutOfRange patch len
+refused_when_full (accepts.Full which need room) = Full Resources 4_096
+refused_when_full accepts.Memory = Memory
+
 -- the first count that is above its limit, in the order of `Which`
 abbrev pub first_over : Counts → Option Which
 first_over c =

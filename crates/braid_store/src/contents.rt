@@ -1,6 +1,6 @@
 //! What a book keeps: resources by path, and where each entry is.
 
-ghost use Rattle.std.specs.Prelude.{◌≡◌, ◌≢◌, ◌↔◌, ◌<◌, [], List, ℕ, Some, IfSome, IfNone, IfOk, IsTrue, Contains, slice_get, length};
+ghost use Rattle.std.specs.Prelude.{◌≡◌, ◌≢◌, ◌↔◌, ◌<◌, ◌≤◌, [], List, ℕ, Some, IfSome, IfNone, IfOk, IsTrue, Contains, slice_get, length};
 ghost use Rattle.braid_text.specs.Histories.{IsLegal};
 ghost use Rattle.braid_store.specs.Books.{of_path, paths_of};
 ghost use Rattle.braid_store.specs.Inside.{entries_in, IsKept, Puts, MayAdd, Adds, HasSpare, SameContents, room_beside};
@@ -8,10 +8,10 @@ ghost use Rattle.braid_store.specs.Inside.{entries_in, IsKept, Puts, MayAdd, Add
 use crate::limits::{MOST_DELETIONS, MOST_ELEMENTS, MOST_RESOURCES, MOST_VERSIONS, MOST_WIDTH};
 use crate::path::Path;
 use crate::place::Place;
-use crate::put::{Put, answer_of};
+use crate::put::{Put, answer_of, answer_when_full};
 use braid_change::Update;
 use braid_ids::{Bytes, Memory};
-use braid_text::{Accept, Resource, Room, Which};
+use braid_text::{Accept, Resource, Room};
 use indexmap::IndexMap;
 use std::alloc::Global;
 
@@ -86,22 +86,28 @@ impl Contents {
         ensures puts { Puts self.old self.new (record { path = path.now; by = by; update = update }) result }
     {
         let mut resource = Resource::new(alloc);
-        match resource.accept(alloc, update, &self.room()) {
-            Accept::New | Accept::Full { .. } if self.resources.len() as u64 >= MOST_RESOURCES => {
-                Put::Full {
-                    which: Which::Resources,
-                    limit: MOST_RESOURCES,
-                }
+        let answer = resource.accept(alloc, update, &self.room());
+        if self.is_full() {
+            return answer_when_full(answer);
+        }
+        match answer {
+            Accept::New => {
+                let Ok(path) = self.make_room(alloc, path) else {
+                    return Put::Memory;
+                };
+                self.push(path, by, resource);
+                Put::New
             }
-            Accept::New => match self.make_room(alloc, path) {
-                Ok(path) => {
-                    self.push(path, by, resource);
-                    Put::New
-                }
-                Err(_) => Put::Memory,
-            },
             answer => answer_of(answer),
         }
+    }
+
+    /// Whether there are as many resources as there may be.
+    fn is_full(&self) -> bool
+        requires kept { IsKept self.now }
+        ensures full { IsTrue result ↔ (4096 ≤ length (paths_of (entries_in self.now))) }
+    {
+        self.resources.len() as u64 >= MOST_RESOURCES
     }
 
     /// A copy of a path for a key, and room for one resource and one entry more.

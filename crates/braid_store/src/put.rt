@@ -1,5 +1,6 @@
 ghost use Rattle.std.specs.Prelude.{◌≡◌};
-ghost use Rattle.braid_store.specs.Answers.{refused_as};
+ghost use Rattle.braid_store.specs.Answers.{limit_of, refused_as, refused_when_full};
+ghost use Rattle.braid_store.specs.declared.put.Put.TheVariants.{Full};
 
 use crate::limits::limit_of;
 use braid_ids::Id;
@@ -34,10 +35,27 @@ pub(crate) fn answer_of(answer: Accept) -> Put
         Accept::Clash { id } => Put::Clash { id },
         Accept::UnknownParent { id } => Put::UnknownParent { id },
         Accept::OutOfRange { patch, len } => Put::OutOfRange { patch, len },
-        Accept::Full { which, .. } => Put::Full {
-            which,
-            limit: limit_of(which),
-        },
+        Accept::Full { which, .. } => full(which),
         Accept::Memory => Put::Memory,
+    }
+}
+
+/// The answer of a resource that would be one too many. Of the counts, that of the resources is the first.
+pub(crate) fn answer_when_full(answer: Accept) -> Put
+    ensures same { result ≡ refused_when_full answer }
+{
+    match answer {
+        Accept::New | Accept::Full { .. } => full(Which::Resources),
+        answer => answer_of(answer),
+    }
+}
+
+/// The answer that names the limit of a count.
+fn full(which: Which) -> Put
+    ensures full { result ≡ Full which (limit_of which) }
+{
+    Put::Full {
+        which,
+        limit: limit_of(which),
     }
 }

@@ -1,0 +1,28 @@
+use Rattle.std.proofs.Common.{◌≡◌, ℕ, List, [], ◌∷◌, ◌++◌, ◌≤◌, length, true≢false, sym, ap, subst, ◌∙◌, inr}
+use Rattle.braid_change.specs.Updates.{UpdateView}
+use Rattle.braid_text.specs.declared.accept.Accept.{Accept}
+use Rattle.braid_text.specs.Answers.{IsAnswer}
+use Rattle.braid_store.specs.declared.entry.Entry.{Entry}
+use Rattle.braid_store.specs.declared.put.Put.{Put}
+use Rattle.braid_store.specs.declared.put.Put.TheVariants.{New}
+use Rattle.braid_store.specs.Answers.{IsPut}
+use Rattle.braid_store.specs.Inside.{entries_in}
+use Rattle.braid_store.proofs.Fitting.{fits_by, full_fits_by, when_full_other, refused_other, below_from, none_contained, HasPlace}
+use Rattle.braid_store.proofs.Keeping.{first_entry, put_refused, same_contents, may_add, put_first_new}
+use Rattle.braid_store.proofs.contents.Contents.put_first.Goals as goal
+
+pub returns-then-is_full : goal.returns-then-is_full
+returns-then-is_full c = record { puts = put_refused c.args.self.now c.args.self.now (first_entry c.args.path.now c.args.by c.args.update) c.answer_when_full.result c.requires.kept (same_contents c.args.self.now)
+    (subst (IsPut (entries_in c.args.self.now) (first_entry c.args.path.now c.args.by c.args.update)) (sym c.answer_when_full.ensures.same)
+    (full_fits_by (entries_in c.args.self.now) (first_entry c.args.path.now c.args.by c.args.update) c.requires.absent (c.is_full.ensures.full.0 c.if-is_full.true) c.room.result c.new-resource.result (c.new-resource.ensures.none ∙ sym c.requires.absent) c.accept-answer.result c.accept-answer.ensures.answer))
+    (λ h. absurd (none_contained _ c.args.update c.requires.absent h))
+    (λ h. when_full_other c.accept-answer.result (sym c.answer_when_full.ensures.same ∙ h)) }
+
+pub push-requires-clause-may : goal.push-requires-clause-may
+push-requires-clause-may c = ?
+
+pub returns-in-Ok : goal.returns-in-Ok
+returns-in-Ok c = ?
+
+pub returns-in_default : goal.returns-in_default
+returns-in_default c = ?
