@@ -81,3 +81,6 @@ found_by rs B q p e f H h =
 
 pub absent_by : (rs : List (List ℕ × List UpdateView)) (B : List Entry) (q p : List ℕ) → rs ≡ resources_of B → q ≡ p → is_some (lookup (same_path q) rs) ≡ false → of_path B p ≡ []
 absent_by rs B q p e f h = absent_is B p (ap is_some (sym (ap (λ (t : List ℕ). lookup (same_path t) rs) f ∙ ap (λ (t : List (List ℕ × List UpdateView)). lookup (same_path p) t) e)) ∙ h)
+
+pub place_by : (rs : List (List ℕ × List UpdateView)) (B : List Entry) (q p : List ℕ) (n : ℕ) → rs ≡ resources_of B → q ≡ p → position (same_path q) (keys_of rs) ≡ Some n → slice_get (paths_of B) n ≡ Some p
+place_by rs B q p n e f h = place_is B p n (sym (ap (λ (t : List ℕ). position (same_path t) (keys_of rs)) f ∙ ap (λ (t : List (List ℕ × List UpdateView)). position (same_path p) (keys_of t)) e) ∙ h)

@@ -1,5 +1,5 @@
 -- What a book keeps, call by call.
-use Rattle.std.proofs.Common.{◌≡◌, ◌≢◌, ℕ, ◌+◌, ◌-◌, ◌<◌, ◌≤◌, List, [], ◌∷◌, ◌++◌, Bool, true, false, cond, map, length, reverse, Some, None, refl, sym, ap, subst, ◌∙◌, arith, zero, suc, Contains}
+use Rattle.std.proofs.Common.{◌≡◌, ◌≢◌, ℕ, ◌+◌, ◌-◌, ◌<◌, ◌≤◌, List, [], ◌∷◌, ◌++◌, Bool, true, false, cond, map, length, reverse, Some, None, refl, sym, ap, subst, ◌∙◌, arith, zero, suc, inr, Contains}
 use Rattle.std.specs.List.{slice_get}
 use Rattle.std.specs.Map.{lookup, values_of}
 use Rattle.std.specs.Option.{option_map}
@@ -11,21 +11,23 @@ use Rattle.braid_change.specs.Updates.{UpdateView}
 use Rattle.braid_graph.specs.Entries.{GraphEntry, ids_of}
 use Rattle.braid_text.specs.Histories.{IsLegal, graph_of, entry_of}
 use Rattle.braid_text.specs.declared.room.Room.{Room}
+use Rattle.braid_text.specs.declared.accept.Accept.TheVariants as accepts
+use Rattle.braid_text.specs.Answers.{IsAnswer}
 use Rattle.braid_text.proofs.Held.{one_update}
 use Rattle.braid_store.specs.declared.entry.Entry.{Entry}
 use Rattle.braid_store.specs.declared.place.Place.{Place}
 use Rattle.braid_store.specs.declared.contents.Contents.{Contents}
 use Rattle.braid_store.specs.declared.put.Put.{Put}
-use Rattle.braid_store.specs.declared.put.Put.TheVariants.{New, Known}
+use Rattle.braid_store.specs.declared.put.Put.TheVariants.{New, Known, Memory}
 use Rattle.braid_store.specs.Answers.{IsPut}
 use Rattle.braid_store.specs.Books.{same_path, of_path, paths_of, sum_of}
-use Rattle.braid_store.specs.Inside.{entries_at, entries_in, resources_of, KeepsBook, IsKept, Puts, MayAdd, Adds, SameContents, room_beside}
+use Rattle.braid_store.specs.Inside.{entries_at, entries_in, resources_of, IsBook, KeepsBook, IsKept, Puts, MayAdd, Adds, SameContents, room_beside}
 use Rattle.braid_store.proofs.Paths.{absent_from_history, paths_new, paths_there}
 use Rattle.braid_store.proofs.Sums.{sum_push}
 use Rattle.braid_store.proofs.Found.{lookup_finds}
 use Rattle.braid_store.proofs.Grown.{placed_len, there, resource_grown, resource_added, IsPlaceFor, Grows, grows}
-use Rattle.braid_store.proofs.Counted.{elements_len, deletions_len}
-use Rattle.braid_store.proofs.Fitting.{none_contained}
+use Rattle.braid_store.proofs.Counted.{elements_len, deletions_len, elements_added, deletions_added}
+use Rattle.braid_store.proofs.Fitting.{none_contained, fits_by, below_from}
 
 -- the update that has an identifier is the one that is sought, where the history holds that one
 pub contained : (H : List UpdateView) (n : ℕ) (held u : UpdateView) → slice_get H n ≡ Some held → held ≡ u → Contains H u
@@ -195,3 +197,25 @@ put_first_new old middle new path key by u us same is one put absent adds kept =
   known = λ h. absurd (none_contained (of_path (entries_in old) path) u absent h);
   kept = kept;
 }
+
+pub memory_other : Memory ≡ New → ⊥
+memory_other h = cc
+
+-- the answer New of an empty resource, where there is room for one more
+pub new_fits : (B : List Entry) (path : List ℕ) (by : ℕ) (u : UpdateView) → IsBook B → of_path B path ≡ [] → (4_096 ≤ length (paths_of B) → ⊥) → (room : Room) (H : List UpdateView) → room ≡ room_beside B → H ≡ [] → IsAnswer room H u accepts.New → IsPut B (first_entry path by u) New
+new_fits B path by u book absent less room H r h is = fits_by B (first_entry path by u) book (inr (absent, below_from (length (paths_of B)) less)) room H r (h ∙ sym absent) accepts.New is
+
+-- the totals with a later update
+pub elements_later : (B : List Entry) (e : Entry) (H us : List UpdateView) → H ≡ of_path B e.path → us ≡ of_path B e.path ++ e.update ∷ [] → (before after total : ℕ) → before ≡ elements_len H → after ≡ elements_len us → total ≡ sum_of elements_len B → total + (after - before) ≡ sum_of elements_len (B ++ e ∷ [])
+elements_later B e H us h one before after total b a t =
+    let was = b ∙ ap elements_len h in
+    let is = a ∙ ap elements_len one in
+    let added = elements_added (of_path B e.path) e.update in
+    sum_later elements_len refl B e before after total was is (omega (arith, was, is, added)) t
+
+pub deletions_later : (B : List Entry) (e : Entry) (H us : List UpdateView) → H ≡ of_path B e.path → us ≡ of_path B e.path ++ e.update ∷ [] → (before after total : ℕ) → before ≡ deletions_len H → after ≡ deletions_len us → total ≡ sum_of deletions_len B → total + (after - before) ≡ sum_of deletions_len (B ++ e ∷ [])
+deletions_later B e H us h one before after total b a t =
+    let was = b ∙ ap deletions_len h in
+    let is = a ∙ ap deletions_len one in
+    let added = deletions_added (of_path B e.path) e.update in
+    sum_later deletions_len refl B e before after total was is (omega (arith, was, is, added)) t
