@@ -7,3 +7,4 @@ pub mod Found
 pub mod Grown
 pub mod Fitting
 pub mod Keeping
+pub mod Stepping

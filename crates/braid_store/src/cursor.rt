@@ -1,5 +1,6 @@
-ghost use Rattle.std.specs.Prelude.{◌≡◌};
+ghost use Rattle.std.specs.Prelude.{◌≡◌, ◌≤◌, ◌<◌, ℕ, IfSome, IfNone};
 ghost use Rattle.std.specs.Option.{option_copied};
+ghost use Rattle.braid_ids.specs.MarkSets.{IsMarked};
 ghost use Rattle.braid_store.specs.Cursors.{FitsHistory, IsNext};
 
 use braid_change::Update;
@@ -54,13 +55,29 @@ impl Cursor {
         ensures kept { self.new ≡ record self.old { passed = self.new.passed } }
         ensures fits { FitsHistory resource.now self.new }
     {
-        for n in self.passed..resource.entries() {
-            if !self.marks.has(n) {
+        let end = resource.entries();
+        match first_unmarked(&self.marks, self.passed, end) {
+            Some(n) => {
                 self.passed = n + 1;
-                return resource.entry(n);
+                resource.entry(n)
+            }
+            None => {
+                self.passed = end;
+                None
             }
         }
-        self.passed = resource.entries();
-        None
     }
+}
+
+/// The first number from `start` on, below `end`, that is not in a set.
+fn first_unmarked(marks: &Marks, start: u32, end: u32) -> Option<u32>
+    ensures found { IfSome result (λ n. (start ≤ n) × (n < end) × ¬ (IsMarked marks.now n) × ((k : ℕ) → start ≤ k → k < n → IsMarked marks.now k)) }
+    ensures none { IfNone result ((k : ℕ) → start ≤ k → k < end → IsMarked marks.now k) }
+{
+    for n in start..end {
+        if !marks.has(n) {
+            return Some(n);
+        }
+    }
+    None
 }
