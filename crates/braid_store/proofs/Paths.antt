@@ -60,7 +60,7 @@ of_path_push (x ∷ B) e p = go (same_path p x.path) (of_path_push B e p)
   where
     go : (b : Bool) → of_path (B ++ e ∷ []) p ≡ of_path B p ++ cond (same_path p e.path) (e.update ∷ []) []
         → map (λ (y : Entry). y.update) (cond b (x ∷ entries_of (B ++ e ∷ []) p) (entries_of (B ++ e ∷ []) p))
-            ≡ map (λ (y : Entry). y.update) (cond b (x ∷ entries_of B p) (entries_of B p)) ++ cond (same_path p e.path) (e.update ∷ []) []
+        ≡ map (λ (y : Entry). y.update) (cond b (x ∷ entries_of B p) (entries_of B p)) ++ cond (same_path p e.path) (e.update ∷ []) []
     go true h = ap (λ (us : List UpdateView). x.update ∷ us) h
     go false h = h
 

@@ -54,8 +54,8 @@ next_at H c n legal fit l within out before = go (slice_get H n) refl
     go None h = absurd (no_gap H n within h)
     go (Some u) h = (
       skip_to H c legal fit c.passed n l before ∙ ap (filter (is_outside H c.from)) (drop_at H n u h)
-      ∙ ap (λ (b : Bool). cond b (u ∷ left_past H c.from (suc n)) (left_past H c.from (suc n))) (outside_at H c n u legal fit h out)
-      ∙ ap (λ (m : ℕ). u ∷ left_past H c.from m) (let e : suc n ≡ n + 1 = omega arith in e),
+          ∙ ap (λ (b : Bool). cond b (u ∷ left_past H c.from (suc n)) (left_past H c.from (suc n))) (outside_at H c n u legal fit h out)
+          ∙ ap (λ (m : ℕ). u ∷ left_past H c.from m) (let e : suc n ≡ n + 1 = omega arith in e),
       omega (arith, l),
       ap (slice_get H) (let e : n + 1 - 1 ≡ n = omega arith in e) ∙ h,
     )

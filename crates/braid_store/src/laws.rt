@@ -1,9 +1,7 @@
 //! Laws of books, each the contract of a function that does nothing.
 
 ghost use Rattle.std.specs.Prelude.{◌≡◌, ◌≢◌, ◌↔◌, ℕ, ◌+◌, ◌≤◌, ◌++◌, ◌∷◌, [], List, Contains, length, take, filter};
-ghost use Rattle.braid_ids.specs.Identifiers.{IsIdentifier};
-ghost use Rattle.braid_ids.specs.Frontiers.{IsRising};
-ghost use Rattle.braid_change.specs.Updates.{UpdateView, IsBuilt};
+ghost use Rattle.braid_change.specs.Updates.{UpdateView, IsUpdate};
 ghost use Rattle.braid_graph.specs.Entries.{HoldsAll};
 ghost use Rattle.braid_text.specs.Histories.{graph_of, IsLegal};
 ghost use Rattle.braid_text.specs.Answers.{needs_of};
@@ -40,12 +38,12 @@ pub fn counts_grow()
     ensures width { (B : List Entry) (e : Entry) → (counts_at (B ++ e ∷ []) e.path).width ≡ (needs_of (of_path B e.path) e.update).width }
 {}
 
-/// The answer to an entry whose update has an identifier and rising parents and is built is the one that fits, and no other
-/// fits but want of memory; to an update that the path holds only Known fits.
+/// The answer to an entry of an update that the program can hold is the one that fits, and no other fits but want of memory;
+/// to an update that the path holds only Known fits.
 pub fn one_answer()
-    ensures fits { (B : List Entry) (e : Entry) → IsLegalBook B → IsIdentifier e.update.id → IsRising e.update.parents → IsBuilt e.update.parents e.update.change → IsPut B e (put_answer B e) }
-    ensures one { (B : List Entry) (e : Entry) → IsLegalBook B → IsRising e.update.parents → (a : Put) → IsPut B e a → a ≢ Memory → a ≡ put_answer B e }
-    ensures known { (B : List Entry) (e : Entry) → IsLegalBook B → IsRising e.update.parents → Contains (of_path B e.path) e.update → (a : Put) → IsPut B e a → a ≡ Known }
+    ensures fits { (B : List Entry) (e : Entry) → IsLegalBook B → IsUpdate e.update → IsPut B e (put_answer B e) }
+    ensures one { (B : List Entry) (e : Entry) → IsLegalBook B → IsUpdate e.update → (a : Put) → IsPut B e a → a ≢ Memory → a ≡ put_answer B e }
+    ensures known { (B : List Entry) (e : Entry) → IsLegalBook B → IsUpdate e.update → Contains (of_path B e.path) e.update → (a : Put) → IsPut B e a → a ≡ Known }
 {}
 
 /// What is sent of a longer book begins with what is sent of the shorter one; behind it comes all that was put to the path
