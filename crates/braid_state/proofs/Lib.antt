@@ -1,0 +1,11 @@
+pub mod Lines
+pub mod Counts
+pub mod Options
+pub mod HeadRead
+pub mod Stopped
+pub mod Updates
+pub mod Departed
+pub mod BodyRead
+pub mod OneReading
+pub mod Spelled
+pub mod Written

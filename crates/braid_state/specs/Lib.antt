@@ -1,0 +1,5 @@
+pub mod Places
+pub mod Heads
+pub mod States
+pub mod StateFaults
+pub mod Stops
