@@ -33,13 +33,10 @@ pub fn read_head<'a>(alloc: Global, bytes: &'a [u8]) -> Result<(Heading, &'a [u8
     let (agent, rest) = read_owner(alloc, bytes)?;
     let (server, path, rest) = read_place(rest)?;
     let (confirmed, unsent, rest) = read_counts(rest)?;
-    let (Ok(server), Ok(path)) = (Bytes::of(alloc, server), Bytes::of(alloc, path)) else {
-        return Err(Stop::Memory);
-    };
     let heading = Heading {
         agent,
-        server,
-        path,
+        server: Bytes::of(alloc, server)?,
+        path: Bytes::of(alloc, path)?,
         confirmed,
         unsent,
     };
@@ -70,11 +67,10 @@ fn read_owner<'a>(alloc: Global, bytes: &'a [u8]) -> Result<(Agent, &'a [u8]), S
     let Some((name, after)) = read_line(Line::Agent, rest) else {
         return Err(Stop::Bad(rest));
     };
-    match read_agent(alloc, name) {
-        Ok(Some(agent)) => Ok((agent, after)),
-        Ok(None) => Err(Stop::Bad(rest)),
-        Err(Memory) => Err(Stop::Memory),
-    }
+    let Some(agent) = read_agent(alloc, name)? else {
+        return Err(Stop::Bad(rest));
+    };
+    Ok((agent, after))
 }
 
 /// Reads the lines of the server and the path behind those of the agent.

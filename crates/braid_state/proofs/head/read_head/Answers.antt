@@ -19,6 +19,6 @@ returns-in_err-confirmed-clause-stop c =
 
 pub returns-clause-ok : goal.returns-clause-ok
 returns-clause-ok c =
-    let head : Head = record { agent = c.in_ok-agent.agent; server = c.in-Ok-Ok.server; path = c.in-Ok-Ok.path; confirmed = decimal c.in_ok-confirmed.confirmed; unsent = decimal c.in_ok-confirmed.unsent } in
-    let four = c.in_ok-server.ensures.ok head c.args.bytes.now c.in-Ok-Ok.ensures.ok c.in-Ok-Ok.ensures'.ok (c.in_ok-agent.ensures.ok head refl) in
+    let head : Head = record { agent = c.agent.inside.bytes.items; server = c.in_ok-of.field-0; path = c.in_ok-of-2.field-0; confirmed = decimal c.in_ok-confirmed.confirmed; unsent = decimal c.in_ok-confirmed.unsent } in
+    let four = c.in_ok-server.ensures.ok head c.args.bytes.now c.in_ok-of.ensures.ok c.in_ok-of-2.ensures.ok (c.in_ok-agent.ensures.ok head c.agent.view_is) in
     (c.in_ok-confirmed.ensures.ok head c.args.bytes.now refl refl four, c.in_ok-confirmed.ensures.few)

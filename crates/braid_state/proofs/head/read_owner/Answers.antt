@@ -24,8 +24,8 @@ returns-in_default-read_line-clause-stop c =
     bad_line 1 lines.Agent no_head c.in-Some.rest.now c.args.bytes.now (omega arith) refl (record { forms = (tt, tt); spelled = c.in-Some.ensures.found })
     (λ other more same form. c.in_default-read_line.ensures.found other.agent more (value_lacks other lines.Agent form))
 
-pub returns-in-Ok-None-clause-stop : goal.returns-in-Ok-None-clause-stop
-returns-in-Ok-None-clause-stop c =
+pub returns-in_default-2-clause-stop : goal.returns-in_default-2-clause-stop
+returns-in_default-2-clause-stop c =
     bad_line 1 lines.Agent no_head c.in-Some.rest.now c.args.bytes.now (omega arith) refl (record { forms = (tt, tt); spelled = c.in-Some.ensures.found })
     (λ other more same form e. no_agent c.in-Some-read_line.name.now other.agent c.in-Some.rest.now _ _ c.in-Some-read_line.ensures.found.0 c.in-Some-read_line.ensures.found.1 (value_lacks other lines.Agent form) e
-    (rw c.in-Ok-None.field-0-is at c.in-Ok-None.ensures.found) form)
+    (rw c.in_default-2.is at c.in_ok-agent.ensures.found) form)
