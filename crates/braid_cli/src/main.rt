@@ -16,7 +16,10 @@ use std::process::ExitCode;
 use words::read_words;
 
 fn main(rt: HostRuntime) -> ExitCode {
-    let (mut source, mut out) = (StdSource::new(rt.reader()), StdSink::new(std::io::writer(&rt)));
+    let (mut source, mut out) = (
+        StdSource::new(rt.reader()),
+        StdSink::new(std::io::writer(&rt)),
+    );
     ExitCode::from(exit_code(rt.alloc(), read_words(&rt), &mut source, &mut out))
 }
 
