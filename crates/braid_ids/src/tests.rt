@@ -63,14 +63,40 @@ fn sorts_identifiers_and_drops_repeats(rt: HostRuntime) -> Result<(), Fail> {
     Ok(())
 }
 
+/// The set of the numbers below 10 in these ranges, put in in this order.
+fn marks_of(alloc: Global, ranges: &[(u32, u32)]) -> Result<Marks, Fail> {
+    let mut marks = Marks::of(alloc, 10)?;
+    for (from, to) in ranges {
+        if *from >= *to || *to > marks.size() {
+            return Err("no range below 10".into());
+        }
+        marks.add(*from, *to)?;
+    }
+    Ok(marks)
+}
+
 #[test]
-fn marks_ranges_of_numbers(rt: HostRuntime) -> Result<(), Fail> {
-    let mut marks = Marks::of(rt.alloc(), 10)?;
-    assert_eq!(rt; marks.size(), 10);
-    assert!(rt; marks.add(2, 4).is_ok());
-    assert!(rt; marks.add(3, 10).is_ok());
-    for n in 0..12u32 {
-        assert_eq!(rt; marks.has(n), n >= 2 && n < 10);
+fn ranges_that_touch_or_overlap_become_one(rt: HostRuntime) -> Result<(), Fail> {
+    let rows: [(&[(u32, u32)], &[u8], u32); 9] = [
+        (&[], b"0000000000", 0),
+        (&[(2, 4), (3, 10)], b"0011111111", 1),
+        (&[(2, 4), (4, 6)], b"0011110000", 1),
+        (&[(4, 6), (2, 4)], b"0011110000", 1),
+        (&[(2, 8), (3, 5)], b"0011111100", 1),
+        (&[(6, 8), (2, 4)], b"0011001100", 2),
+        (&[(0, 1), (9, 10), (3, 4)], b"1001000001", 3),
+        (&[(0, 1), (3, 4), (6, 7), (1, 6)], b"1111111000", 1),
+        (&[(5, 10), (0, 5)], b"1111111111", 1),
+    ];
+    for (ranges, digits, pieces) in rows {
+        let marks = marks_of(rt.alloc(), ranges)?;
+        assert_eq!(rt; marks.size(), 10);
+        assert_eq!(rt; marks.pieces(), pieces);
+        assert_eq!(rt; marks.is_full(), !digits.contains(&b'0'));
+        for n in 0..12u32 {
+            let digit = digits.get(n as usize).copied();
+            assert_eq!(rt; marks.has(n), digit == Some(b'1'));
+        }
     }
     Ok(())
 }
