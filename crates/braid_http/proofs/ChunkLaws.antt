@@ -1,12 +1,12 @@
 -- A chunked body is read in one way.
-use Rattle.std.proofs.Common.{◌≡◌, ◌≢◌, ℕ, suc, ◌+◌, ◌-◌, ◌<◌, ◌≤◌, append_assoc, List, [], ◌∷◌, ◌++◌, ◌⊎◌, inl, inr, refl, ap, sym, ◌∙◌, length, take, flat_map, arith, length-append, append-nil}
+use Rattle.std.proofs.Common.{◌≡◌, ℕ, ◌+◌, ◌-◌, ◌≤◌, append_assoc, List, [], ◌∷◌, ◌++◌, inl, inr, refl, ap, sym, ◌∙◌, length, take, flat_map, arith, length-append}
 use Rattle.std.specs.List.{AllByRecursion}
 use Rattle.std.proofs.lemmas.List.{append_cancel_left}
-use Rattle.httparse.specs.Grammar.{ChunkLine, ReadsChunkLine, chunk_size}
+use Rattle.httparse.specs.Grammar.{chunk_size}
 use Rattle.httparse.proofs.ChunkLemmas.{chunk_line_unique}
 use Rattle.braid_ids.specs.Lists.{Lacks}
-use Rattle.braid_http.specs.Heads.{line, lines, IsEmptyLine, IsFullLine, HasNoBlock}
-use Rattle.braid_http.specs.Chunks.{IsCut, Announces, Chunk, IsChunk, print_chunk, chunk_data, IsTrailer, Departs, Close, done, bad_chunk, too_long, Closes, last, unread, over, departs, long_trailer, EndsChunked, IsChunked, OneBody, OneData}
+use Rattle.braid_http.specs.Heads.{line, lines, HasNoBlock}
+use Rattle.braid_http.specs.Chunks.{IsCut, Announces, Chunk, IsChunk, print_chunk, chunk_data, IsTrailer, Departs, Close, done, Closes, last, unread, over, departs, long_trailer, OneBody, OneData}
 use Rattle.braid_http.proofs.LineLaws.{same_line, same_block}
 use Rattle.braid_http.proofs.Fronts.{same_front, cut_front}
 

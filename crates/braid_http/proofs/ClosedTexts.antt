@@ -7,14 +7,14 @@ use Rattle.std.proofs.lemmas.Bool.Decides.{nat_tests}
 use Rattle.std.proofs.lemmas.List.{take_at, drop_at}
 use Rattle.std.proofs.lemmas.Grind.{flat_map-append}
 use Rattle.braid_ids.specs.Lists.{Lacks}
-use Rattle.braid_ids.specs.Identifiers.{IsIdentifier, IsPrintable, escaped, spelled_id, spelled_ids}
+use Rattle.braid_ids.specs.Identifiers.{IsIdentifier, IsPrintable, escaped, spelled_id}
 use Rattle.braid_ids.proofs.Splits.{lacks_append}
 use Rattle.braid_ids.proofs.Spelled.{alone, after, escape_of}
 use Rattle.braid_change.specs.Spellings.{parents_text as list_text}
 use Rattle.braid_http.specs.declared.looks.Look.{Look}
 use Rattle.braid_http.specs.declared.reply.Reply.{Reply}
 use Rattle.braid_http.specs.declared.reply.Reply.TheVariants.{Text, Stored, Error, Subscription}
-use Rattle.braid_http.specs.Heads.{line, lines, IsEmptyLine, IsFullLine, HasNoBlock}
+use Rattle.braid_http.specs.Heads.{line, lines, IsFullLine, HasNoBlock}
 use Rattle.braid_http.specs.Looks.{IsBlockAt}
 use Rattle.braid_http.specs.Replies.{phrase_of, allow_lines, type_line, head_lines, content_of, has_close, close_lines, ended, reply_text, IsClosable}
 use Rattle.braid_http.proofs.LineLaws.{same_block}

@@ -1,12 +1,12 @@
 -- A connection's bytes are cut in one way.
-use Rattle.std.proofs.Common.{◌≡◌, ◌≢◌, ℕ, ◌+◌, ◌<◌, ◌≤◌, Bool, true, false, true≢false, ◌||◌, append_assoc, List, [], ◌∷◌, ◌++◌, refl, ap, sym, ◌∙◌, length, arith, length-append, append-nil}
+use Rattle.std.proofs.Common.{◌≡◌, ℕ, ◌+◌, ◌<◌, Bool, true, false, true≢false, ◌||◌, List, [], ◌∷◌, ◌++◌, refl, ap, sym, ◌∙◌, length, arith, length-append}
 use Rattle.std.proofs.lemmas.List.{append_cancel_left}
 use Rattle.std.proofs.lemmas.Grind.{common_steps}
 use Rattle.std.specs.Prelude.{nat_le}
 use Rattle.braid_http.specs.declared.request.Request.{Request}
 use Rattle.braid_http.specs.declared.refusal.Refusal.{Refusal}
-use Rattle.braid_http.specs.Requests.{Answer, asked, refused, Decides, IsOpen}
-use Rattle.braid_http.specs.Cuts.{Cuts, is_over, Tail, nothing, part, refusal, unseen, Stands, TailIs, Requests, OneCut}
+use Rattle.braid_http.specs.Requests.{Answer, asked, refused, Decides}
+use Rattle.braid_http.specs.Cuts.{Cuts, is_over, Tail, nothing, part, refusal, unseen, Stands, TailIs, OneCut}
 use Rattle.braid_http.proofs.Decisions.{one_answer}
 use Rattle.braid_http.proofs.Sizes.{decides_some}
 

@@ -1,18 +1,16 @@
 -- The bytes that decide an answer: no such bytes begin others, and they decide one answer.
-use Rattle.std.proofs.Common.{◌≡◌, ◌≢◌, ℕ, ◌+◌, ◌-◌, ◌<◌, ◌≤◌, append_assoc, List, [], ◌∷◌, ◌++◌, ◌⊎◌, inl, inr, refl, ap, sym, ◌∙◌, length, take, drop, arith, length-append, append-nil, length-take}
-use Rattle.std.proofs.lemmas.List.{take_at, append_cancel_left, take-append-drop}
-use Rattle.httparse.specs.Grammar.{RequestHead, ReadsRequest}
+use Rattle.std.proofs.Common.{◌≡◌, ℕ, ◌-◌, ◌<◌, ◌≤◌, append_assoc, List, [], ◌++◌, refl, ap, sym, ◌∙◌, length, take, arith, append-nil}
+use Rattle.httparse.specs.Grammar.{RequestHead}
 use Rattle.httparse.proofs.GrammarLemmas.{request_unique}
 use Rattle.braid_http.specs.Fields.{IsWhole, fields_of}
 use Rattle.braid_http.specs.Framings.{framing}
-use Rattle.braid_http.specs.declared.request.Request.{Request}
 use Rattle.braid_http.specs.declared.framing.Framing.{Framing}
 use Rattle.braid_http.specs.declared.framing.Framing.TheVariants.{No, Body, Chunks}
 use Rattle.braid_http.specs.declared.refusal.Refusal.{Refusal}
 use Rattle.braid_http.specs.declared.refusal.Refusal.TheVariants.{LongHead, ManyFields, BadHead, TooLong, BadChunk}
-use Rattle.braid_http.specs.Chunks.{Chunk, chunk_data, Close, done, bad_chunk, too_long, EndsChunked, IsChunked}
+use Rattle.braid_http.specs.Chunks.{Chunk, chunk_data, Close, done, bad_chunk, too_long, EndsChunked}
 use Rattle.braid_http.specs.Heads.{HeadText, IsHeadText, IsHead, head_bytes, text_bytes, HasNoHead}
-use Rattle.braid_http.specs.Requests.{request_of, Says, Answer, asked, refused, Decides, long_head, many_fields, bad_head, by_fields, whole, chunked, bad_chunks, long_chunks, IsOpen}
+use Rattle.braid_http.specs.Requests.{request_of, Says, Answer, asked, refused, Decides, long_head, many_fields, bad_head, by_fields, whole, chunked, bad_chunks, long_chunks}
 use Rattle.braid_http.proofs.LineLaws.{same_text}
 use Rattle.braid_http.proofs.Fronts.{same_front, cut_front}
 use Rattle.braid_http.proofs.ChunkLaws.{one_body}

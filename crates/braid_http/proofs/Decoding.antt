@@ -1,20 +1,18 @@
 -- A chunked body is decoded as its bytes come.
-use Rattle.std.proofs.Common.{◌≡◌, ◌≢◌, ℕ, ◌+◌, ◌-◌, ◌*◌, ◌<◌, ◌≤◌, append_assoc, List, [], ◌∷◌, ◌++◌, refl, ap, sym, subst, ◌∙◌, length, take, drop, flat_map, arith, length-append, append-nil, length-take, length-drop}
-use Rattle.std.proofs.lemmas.List.{take_at, drop_at, take-append-drop}
+use Rattle.std.proofs.Common.{◌≡◌, ◌≢◌, ℕ, ◌+◌, ◌-◌, ◌*◌, ◌<◌, ◌≤◌, append_assoc, List, [], ◌++◌, refl, ap, sym, subst, ◌∙◌, length, take, drop, flat_map, arith, length-append, append-nil, length-take, length-drop}
+use Rattle.std.proofs.lemmas.List.{take-append-drop}
 use Rattle.braid_io.specs.Outside.{Intake, Moves}
-use Rattle.httparse.specs.Grammar.{RequestHead}
 use Rattle.braid_http.specs.declared.stop.Stop.TheVariants as stops
 use Rattle.braid_http.specs.declared.refusal.Refusal.{Refusal}
 use Rattle.braid_http.specs.declared.refusal.Refusal.TheVariants.{LongHead, ManyFields, BadHead, Version, BothLengths, BadLength, TooLong, BadChunk}
-use Rattle.braid_http.specs.declared.framing.Framing.{Framing}
 use Rattle.braid_http.specs.declared.framing.Framing.TheVariants.{Chunks}
 use Rattle.braid_http.specs.declared.reading.Ready.{Ready}
 use Rattle.braid_http.specs.declared.chunks.Place.{Place}
 use Rattle.braid_http.specs.declared.chunks.Place.TheVariants.{Line, Data, Trailer}
-use Rattle.braid_http.specs.declared.chunks.Fed.TheVariants.{Passed, Open, Done, Refused, Memory}
-use Rattle.braid_http.specs.Chunks.{print_chunk, chunk_data}
-use Rattle.braid_http.specs.Requests.{refused, bad_chunks, long_chunks, Says, IsDecided, IsOpen}
-use Rattle.braid_http.specs.Steps.{IsAfter, IsPlace, IsAgainst, Leaves}
+use Rattle.braid_http.specs.declared.chunks.Fed.TheVariants.{Passed, Open, Done, Refused}
+use Rattle.braid_http.specs.Chunks.{print_chunk}
+use Rattle.braid_http.specs.Requests.{refused, bad_chunks, long_chunks, Says, IsOpen}
+use Rattle.braid_http.specs.Steps.{IsAfter, IsPlace, Leaves}
 use Rattle.braid_http.specs.Asks.{Took}
 use Rattle.braid_http.specs.Waits.{IsReady, Stops, TookChunks}
 use Rattle.braid_http.proofs.Looking.{looked_more}

@@ -1,5 +1,5 @@
 -- Fronts of one list.
-use Rattle.std.proofs.Common.{◌≡◌, ℕ, ◌+◌, ◌-◌, ◌<◌, ◌≤◌, append_assoc, List, [], ◌∷◌, ◌++◌, refl, ap, sym, ◌∙◌, length, take, drop, arith, length-append, length-take}
+use Rattle.std.proofs.Common.{◌≡◌, ℕ, ◌-◌, ◌≤◌, append_assoc, List, [], ◌∷◌, ◌++◌, refl, ap, sym, ◌∙◌, length, take, drop, arith, length-append, length-take}
 use Rattle.std.proofs.lemmas.List.{take-append-drop}
 
 pub same_front : (c d r s : List ℕ) → length c ≡ length d → c ++ r ≡ d ++ s → c ≡ d

@@ -1,18 +1,16 @@
 -- What a head that has come decides.
-use Rattle.std.proofs.Common.{◌≡◌, ◌≢◌, ℕ, ◌+◌, ◌-◌, ◌<◌, ◌≤◌, append_assoc, List, [], ◌∷◌, ◌++◌, refl, ap, sym, subst, ◌∙◌, length, take, drop, arith, length-append, length-take}
+use Rattle.std.proofs.Common.{◌≡◌, ℕ, ◌-◌, ◌<◌, ◌≤◌, append_assoc, List, ◌++◌, refl, ap, sym, subst, ◌∙◌, length, take, drop, arith, length-append, length-take}
 use Rattle.std.proofs.lemmas.List.{take_at, drop_at, take-append-drop}
 use Rattle.httparse.specs.Grammar.{RequestHead}
 use Rattle.braid_http.specs.declared.refusal.Refusal.TheVariants.{LongHead, ManyFields, BadHead}
-use Rattle.braid_http.specs.declared.framing.Framing.{Framing}
-use Rattle.braid_http.specs.declared.head.Head.{Head}
 use Rattle.braid_http.specs.declared.looks.HeadLook.{HeadLook}
 use Rattle.braid_http.specs.declared.reading.Ready.{Ready}
 use Rattle.braid_http.specs.Heads.{HeadText, IsHeadText, IsHead, head_bytes, text_bytes, lines, HasNoHead}
-use Rattle.braid_http.specs.Fields.{IsWhole, fields_of}
+use Rattle.braid_http.specs.Fields.{IsWhole}
 use Rattle.braid_http.specs.Framings.{framing}
 use Rattle.braid_http.specs.HeadReads.{Holds}
 use Rattle.braid_http.specs.Looks.{IsHeadAt}
-use Rattle.braid_http.specs.Requests.{refused, Decides, long_head, many_fields, bad_head, Says, IsDecided}
+use Rattle.braid_http.specs.Requests.{refused, long_head, many_fields, bad_head, IsDecided}
 use Rattle.braid_http.specs.Waits.{IsReady}
 use Rattle.braid_http.proofs.LineLaws.{same_text}
 

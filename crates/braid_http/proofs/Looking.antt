@@ -1,14 +1,14 @@
 -- Bytes are looked at line by line.
-use Rattle.std.proofs.Common.{Option, Some, None, MatchOption, ◌≡◌, ◌≢◌, ℕ, ◌+◌, ◌-◌, ◌<◌, ◌≤◌, append_assoc, List, [], ◌∷◌, ◌++◌, inl, inr, refl, ap, sym, subst, ◌∙◌, length, take, drop, flat_map, arith, length-append, append-nil}
+use Rattle.std.proofs.Common.{Option, Some, None, MatchOption, ◌≡◌, ◌≢◌, ℕ, ◌+◌, ◌-◌, ◌<◌, ◌≤◌, append_assoc, List, [], ◌∷◌, ◌++◌, inl, inr, refl, ap, sym, subst, ◌∙◌, length, take, drop, arith, length-append, append-nil}
 use Rattle.std.specs.List.{AllByRecursion}
 use Rattle.std.proofs.lemmas.List.{take_at, drop_at, take-append-drop}
 use Rattle.braid_ids.specs.Lists.{Lacks}
 use Rattle.braid_ids.proofs.Splits.{lacks_append}
 use Rattle.braid_http.specs.declared.looks.Look.{Look}
 use Rattle.braid_http.specs.declared.looks.HeadLook.{HeadLook}
-use Rattle.braid_http.specs.Heads.{line, lines, IsEmptyLine, IsFullLine, HeadText, IsHeadText, text_bytes, head_bytes, HasNoHead, HasNoBlock, BeginsFull}
+use Rattle.braid_http.specs.Heads.{line, lines, IsEmptyLine, IsFullLine, HasNoHead, HasNoBlock, BeginsFull}
 use Rattle.braid_http.specs.Looks.{IsLineFrom, IsLooked, IsBlockAt, IsHeadLooked, IsHeadAt}
-use Rattle.braid_http.proofs.LineLaws.{full_of, push_each, lines_push, no_block_in, line-append, no_head, Blanks}
+use Rattle.braid_http.proofs.LineLaws.{full_of, push_each, lines_push, no_block_in, line-append, no_head}
 
 abbrev no_look : Look
 no_look = record { line = 0; seen = 0; full = 0 }

@@ -1,12 +1,10 @@
 -- A map of fields grows by at most one name and by one value.
-use Rattle.std.proofs.Common.{◌≡◌, ◌≢◌, ℕ, List, [], ◌∷◌, ◌++◌, true, false, true≢false, fold, bytes_eq, refl, sym, ap, ◌∙◌, append_assoc, append-nil, inl, inr, ◌+◌, ◌≤◌, length, arith}
+use Rattle.std.proofs.Common.{◌≡◌, ℕ, List, [], ◌∷◌, ◌++◌, bytes_eq, refl, inl, inr, ◌+◌, ◌≤◌, length, arith}
 use Rattle.std.proofs.lemmas.List.{length_push}
 use Rattle.std.proofs.lemmas.List.Sums.{sum_by-cons}
 use Rattle.std.proofs.lemmas.Bool.{cases_Bool}
-use Rattle.std.proofs.lemmas.Slice.Eq.{bytes_eq-Decides}
-use Rattle.http_header.specs.HeaderMap.{Entries, append, get_all, value_count}
-use Rattle.http_header.specs.FieldValue.{FieldValue, plain_value}
-use Rattle.http_header.specs.Token.{lowercase}
+use Rattle.http_header.specs.HeaderMap.{Entries, append, value_count}
+use Rattle.http_header.specs.FieldValue.{FieldValue}
 
 -- one more value under a name
 pub count_append : (m : Entries FieldValue) (name : List ℕ) (v : FieldValue) → value_count (append m name v) ≡ value_count m + 1

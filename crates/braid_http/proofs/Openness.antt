@@ -1,20 +1,19 @@
 -- Bytes that decide nothing yet.
-use Rattle.std.proofs.Common.{◌≡◌, ◌≢◌, ℕ, ◌+◌, ◌<◌, ◌≤◌, append_assoc, List, [], ◌∷◌, ◌++◌, inl, inr, refl, ap, sym, subst, ◌∙◌, length, flat_map, arith, length-append, append-nil}
+use Rattle.std.proofs.Common.{◌≡◌, ℕ, ◌+◌, ◌<◌, ◌≤◌, append_assoc, List, [], ◌∷◌, ◌++◌, inl, inr, refl, ap, sym, subst, ◌∙◌, length, flat_map, arith, length-append, append-nil}
 use Rattle.std.specs.List.{AllByRecursion}
 use Rattle.std.proofs.lemmas.List.{append_cancel_left}
 use Rattle.httparse.specs.Grammar.{RequestHead}
 use Rattle.braid_ids.specs.Lists.{Lacks}
 use Rattle.braid_ids.proofs.Splits.{lacks_split}
-use Rattle.braid_http.specs.declared.framing.Framing.{Framing}
 use Rattle.braid_http.specs.declared.framing.Framing.TheVariants.{No, Body, Chunks}
-use Rattle.braid_http.specs.Heads.{HeadText, IsHeadText, IsHead, head_bytes, text_bytes, HasNoHead, HasNoBlock, line, lines}
-use Rattle.braid_http.specs.Chunks.{IsCut, Announces, Chunk, IsChunk, print_chunk, chunk_data, IsTrailer, Departs, Close, Closes, last, unread, over, departs, long_trailer, EndsChunked}
+use Rattle.braid_http.specs.Heads.{HeadText, IsHead, text_bytes, HasNoHead, HasNoBlock}
+use Rattle.braid_http.specs.Chunks.{IsCut, Announces, Chunk, IsChunk, print_chunk, chunk_data, Departs, Close, Closes, last, unread, over, departs, long_trailer}
 use Rattle.braid_http.specs.Requests.{Says, Answer, Decides, IsOpen}
 use Rattle.braid_http.specs.Steps.{OpenAfter}
-use Rattle.braid_http.proofs.LineLaws.{same_text, same_block, line-append}
+use Rattle.braid_http.proofs.LineLaws.{same_text, line-append}
 use Rattle.braid_http.proofs.Fronts.{same_front}
 use Rattle.braid_http.proofs.ChunkLaws.{same_cut, same_size, cut_of, no_close, same_chunk}
-use Rattle.braid_http.proofs.Decisions.{Verdict, many, bad, fields, takes, chunks, Headed, Shape, long, headed, shape, same_said, no_long}
+use Rattle.braid_http.proofs.Decisions.{Verdict, many, bad, fields, takes, chunks, Shape, long, headed, shape, same_said, no_long}
 
 -- without a head, and with fewer bytes than a head may have, nothing is decided
 pub open_head : (bytes : List ℕ) → length bytes < 16_384 → HasNoHead bytes → IsOpen bytes

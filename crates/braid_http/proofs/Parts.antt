@@ -3,12 +3,12 @@ use Rattle.std.proofs.Common.{◌≡◌, ◌≢◌, ℕ, ◌==◌, ◌||◌, Boo
 use Rattle.std.specs.List.{list_any}
 use Rattle.std.proofs.lemmas.Bool.Decides.{nat_tests}
 use Rattle.braid_ids.specs.Lists.{Lacks}
-use Rattle.braid_fields.specs.Fields.{trimmed, IsPadded}
+use Rattle.braid_fields.specs.Fields.{trimmed}
 use Rattle.braid_fields.specs.Cuts.{FollowsBlanks, EndsInBlanks}
 use Rattle.braid_fields.proofs.Padding.{both_ends, padded_same}
 use Rattle.braid_fields.proofs.Computed.{trimmed_padded}
-use Rattle.braid_http.specs.Framings.{before_parts, parts_of, is_close}
-use Rattle.std.proofs.Common.{arith, cond}
+use Rattle.braid_http.specs.Framings.{parts_of, is_close}
+use Rattle.std.proofs.Common.{arith}
 
 apart : (x : ℕ) → x ≢ 44 → (x == 44) ≡ false
 apart x n = grind (arith, nat_tests)

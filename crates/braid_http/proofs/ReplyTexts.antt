@@ -1,5 +1,5 @@
 -- What is put together piece by piece is a reply's text.
-use Rattle.std.proofs.Common.{◌≡◌, ℕ, ◌+◌, append_assoc, List, [], ◌∷◌, ◌++◌, refl, ap, sym, ◌∙◌, length, flat_map, codes, decimal}
+use Rattle.std.proofs.Common.{◌≡◌, ℕ, append_assoc, List, [], ◌∷◌, ◌++◌, ap, sym, ◌∙◌, flat_map, codes}
 use Rattle.std.proofs.lemmas.Grind.{flat_map-append}
 use Rattle.braid_http.specs.Replies.{ended}
 

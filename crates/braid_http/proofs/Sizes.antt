@@ -12,13 +12,13 @@ use Rattle.braid_http.specs.Fields.{fields_of}
 use Rattle.braid_http.specs.declared.framing.Framing.{Framing}
 use Rattle.braid_http.specs.declared.framing.Framing.TheVariants.{No, Body, Chunks}
 use Rattle.http_header.specs.FieldValue.{FieldValue}
-use Rattle.braid_http.specs.Heads.{HeadText, IsHead, text_bytes}
+use Rattle.braid_http.specs.Heads.{HeadText, text_bytes}
 use Rattle.braid_http.specs.Framings.{body_of, by_length, by_coding, framing_of, framing}
 use Rattle.braid_http.specs.Chunks.{IsCut, Chunk, IsChunk, print_chunk, chunk_data, Close, Closes, last, unread, over, departs, long_trailer, EndsChunked, Departs}
-use Rattle.braid_http.specs.Requests.{Says, Answer, Decides, IsDecided, FewBytes, StaysDecided}
+use Rattle.braid_http.specs.Requests.{Says, Answer, Decides, FewBytes, StaysDecided}
 use Rattle.braid_http.proofs.LineLaws.{text_some}
 use Rattle.braid_http.proofs.ChunkLaws.{cut_of}
-use Rattle.braid_http.proofs.Decisions.{Shape, long, headed, shape, Headed, Verdict, many, bad, fields, takes, chunks}
+use Rattle.braid_http.proofs.Decisions.{Shape, long, headed, shape, Verdict, many, bad, fields, takes, chunks}
 
 -- a chunk line has at most 256 bytes
 pub cut_short : (l : List ℕ) → IsCut l → length l ≤ 256

@@ -1,20 +1,19 @@
 -- The steps of decoding a chunked body.
 use Rattle.std.proofs.Common.{◌≡◌, ◌≢◌, ℕ, ◌+◌, ◌-◌, ◌<◌, ◌≤◌, append_assoc, List, [], ◌∷◌, ◌++◌, inl, inr, refl, ap, sym, subst, ◌∙◌, length, take, drop, flat_map, arith, length-append, append-nil, length-take, get_or, min}
 use Rattle.std.specs.List.{AllByRecursion}
-use Rattle.std.proofs.lemmas.List.{take_at, drop_at, take-append-drop}
+use Rattle.std.proofs.lemmas.List.{take_at, take-append-drop}
 use Rattle.std.proofs.lemmas.Grind.{flat_map-append}
 use Rattle.httparse.specs.Grammar.{ChunkLine, ReadsChunkLine, print_chunk_line}
 use Rattle.httparse.specs.Spans.{IsChunkLineAt}
 use Rattle.httparse.proofs.ChunkLemmas.{chunk_line_unique}
 use Rattle.braid_ids.specs.Lists.{Lacks}
 use Rattle.braid_http.specs.declared.looks.Look.{Look}
-use Rattle.braid_http.specs.declared.refusal.Refusal.TheVariants.{TooLong, BadChunk}
 use Rattle.braid_http.specs.declared.chunks.Place.TheVariants.{Line, Data, Trailer}
-use Rattle.braid_http.specs.declared.chunks.Fed.TheVariants.{Passed, Open, Done, Refused, Memory}
+use Rattle.braid_http.specs.declared.chunks.Fed.TheVariants.{Passed, Open, Done}
 use Rattle.braid_http.specs.Heads.{HasNoBlock, line, lines}
 use Rattle.braid_http.specs.Looks.{IsLooked, IsBlockAt}
-use Rattle.braid_http.specs.Chunks.{IsCut, Announces, Chunk, IsChunk, print_chunk, chunk_data, IsTrailer, Departs, Close, done, bad_chunk, too_long, Closes, last, unread, over, departs, long_trailer, EndsChunked, IsChunked}
-use Rattle.braid_http.specs.Steps.{IsAtLine, IsInData, IsInTrailer, IsAfter, OpenAfter, IsAgainst, Leaves}
+use Rattle.braid_http.specs.Chunks.{IsCut, Announces, Chunk, IsChunk, print_chunk, chunk_data, Departs, Close, bad_chunk, too_long, Closes, last, unread, over, departs, long_trailer}
+use Rattle.braid_http.specs.Steps.{IsAtLine, IsInData, IsInTrailer, OpenAfter, IsAgainst, Leaves}
 use Rattle.braid_http.proofs.Looking.{look_new}
 use Rattle.braid_http.proofs.LineLaws.{same_block}
 use Rattle.braid_http.proofs.Openness.{open_chunks, open_line, open_data, open_behind, open_trailer}

@@ -1,6 +1,6 @@
 -- Bytes are read onto those held.
-use Rattle.std.proofs.Common.{◌≡◌, ◌≢◌, ℕ, ◌+◌, ◌-◌, ◌*◌, ◌<◌, ◌≤◌, append_assoc, List, [], ◌∷◌, ◌++◌, ◌⊎◌, inl, inr, refl, ap, sym, subst, ◌∙◌, length, take, drop, arith, length-append, append-nil, length-take, length-drop, Option, None, Some, Result, Ok, Err, IfErr}
-use Rattle.std.specs.Io.KnownBytes.{append_known, prepend_known, IsAtEnd}
+use Rattle.std.proofs.Common.{◌≡◌, ◌≢◌, ℕ, ◌+◌, ◌-◌, ◌<◌, ◌≤◌, append_assoc, List, [], ◌∷◌, ◌++◌, inl, inr, refl, ap, sym, subst, ◌∙◌, length, take, drop, arith, length-append, append-nil, length-take, length-drop, Option, None, Some, Result, Ok, Err, IfErr}
+use Rattle.std.specs.Io.KnownBytes.{append_known, prepend_known}
 use Rattle.std.proofs.lemmas.List.{take_at, drop_at, take-append-drop, drop-drop}
 use Rattle.braid_io.specs.Outside.{Intake, Moves, Rose}
 use Rattle.braid_io.proofs.Known.{append_known-append}
@@ -11,21 +11,17 @@ use Rattle.braid_http.specs.declared.request.Request.{Request as Requested}
 use Rattle.braid_http.specs.declared.request.Asked.{Asked}
 use Rattle.braid_http.specs.declared.request.Asked.TheVariants.{Request, End, Refused, Torn, ReadFault, Memory}
 use Rattle.braid_http.specs.declared.refusal.Refusal.{Refusal}
-use Rattle.braid_http.specs.declared.refusal.Refusal.TheVariants.{LongHead, ManyFields, BadHead, Version, BothLengths, BadLength, TooLong, BadChunk}
-use Rattle.braid_http.specs.declared.framing.Framing.{Framing}
+use Rattle.braid_http.specs.declared.refusal.Refusal.TheVariants.{LongHead}
 use Rattle.braid_http.specs.declared.framing.Framing.TheVariants.{No, Body, Chunks}
-use Rattle.braid_http.specs.declared.head.Head.{Head}
 use Rattle.braid_http.specs.declared.reading.Ready.{Ready}
-use Rattle.braid_http.specs.Heads.{HeadText, IsHeadText, IsHead, text_bytes, HasNoHead}
-use Rattle.braid_http.specs.Fields.{IsWhole, fields_of}
-use Rattle.braid_http.specs.Framings.{framing, closes}
+use Rattle.braid_http.specs.Heads.{HeadText, IsHead, HasNoHead}
+use Rattle.braid_http.specs.Framings.{closes}
 use Rattle.braid_http.specs.HeadReads.{Holds}
-use Rattle.braid_http.specs.Chunks.{IsChunked}
-use Rattle.braid_http.specs.Requests.{Answer, asked, refused, Decides, long_head, by_fields, whole, chunked, request_of, Says, IsDecided, IsOpen}
+use Rattle.braid_http.specs.Requests.{Answer, asked, refused, by_fields, whole, chunked, request_of, Says, IsDecided, IsOpen}
 use Rattle.braid_http.specs.Asks.{Took, TookAndFailed, WasNeeded, Answers, Asks}
 use Rattle.braid_http.specs.Waits.{IsReady, Judges, Stops, Breaks, BreaksHead, OpenBelow, TookChunks}
 use Rattle.braid_http.proofs.LineLaws.{text_some}
-use Rattle.braid_http.proofs.Openness.{open_head, open_body}
+use Rattle.braid_http.proofs.Openness.{open_body}
 use Rattle.braid_http.proofs.Sizes.{few_bytes}
 use Rattle.braid_http.proofs.Judging.{refuse_long}
 

@@ -1,8 +1,8 @@
 -- What the head that the parser finds has to do with the head that the bytes are.
-use Rattle.std.proofs.Common.{arith, drop, length-take, ◌≡◌, ◌<◌, ◌≤◌, ℕ, List, [], take, length, All, map, fold, subst, sym, ap, ◌∙◌, slice_index_or, refl}
+use Rattle.std.proofs.Common.{arith, drop, length-take, ◌≡◌, ◌≤◌, ℕ, List, [], take, length, All, map, fold, subst, sym, ap, ◌∙◌}
 use Rattle.std.proofs.lemmas.List.Elements.{All-map}
 use Rattle.std.proofs.lemmas.List.{length-map, get_or-map}
-use Rattle.httparse.specs.Grammar.{Field, IsField, RequestHead, ReadsRequest, field_value, is_token_byte as parsed_token_byte, IsToken as IsParsedToken, is_value_byte}
+use Rattle.httparse.specs.Grammar.{Field, IsField, RequestHead, ReadsRequest, is_token_byte as parsed_token_byte, IsToken as IsParsedToken, is_value_byte}
 use Rattle.httparse.specs.Spans.{header_bytes, span_bytes, name_and_value, AreFieldsAt, IsRequestOf}
 use Rattle.httparse.specs.declared.spans.RequestSpans.{RequestSpans}
 use Rattle.httparse.specs.declared.spans.HeaderSpan.{HeaderSpan}
@@ -14,7 +14,6 @@ use Rattle.http_header.specs.Token.{IsToken, is_token_byte}
 use Rattle.braid_http.specs.Fields.{append_named, fields_of, IsWhole}
 use Rattle.braid_http.specs.HeadReads.{IsGood, IsGoodAt, Holds}
 use Rattle.braid_http.specs.declared.head.Head.{Head}
-use Rattle.braid_http.proofs.FieldLemmas.{IsFilled}
 
 -- the two crates mean the same by a token
 pub same_token : (bytes : List ℕ) → IsParsedToken bytes → IsToken bytes

@@ -1,5 +1,5 @@
 -- What a whole request head says: `httparse` reads it, `http` takes its method and `http_header` its fields.
-use Rattle.std.specs.Prelude.{◌≡◌, ℕ, ◌≤◌, List, [], length, All, map, fold}
+use Rattle.std.specs.Prelude.{ℕ, ◌≤◌, List, [], length, All, map, fold}
 use Rattle.httparse.specs.Grammar.{Field, RequestHead, ReadsRequest}
 use Rattle.httparse.specs.Spans.{name_and_value}
 use Rattle.http_header.specs.Token.{lowercase}

@@ -1,5 +1,5 @@
 -- What is known of bytes that were looked at for an empty line.
-use Rattle.std.specs.Prelude.{◌≡◌, ℕ, ◌+◌, ◌-◌, List, [], ◌∷◌, ◌++◌, length, take, drop}
+use Rattle.std.specs.Prelude.{◌≡◌, ℕ, ◌+◌, ◌-◌, List, ◌∷◌, ◌++◌, length, take, drop}
 use Rattle.std.specs.List.{AllByRecursion}
 use Rattle.braid_ids.specs.Lists.{Lacks}
 use Rattle.braid_http.specs.declared.looks.Look.{Look}

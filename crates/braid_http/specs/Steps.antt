@@ -1,17 +1,13 @@
 -- What one step of decoding a chunked body does.
-use Rattle.std.specs.Prelude.{◌≡◌, ◌≢◌, ℕ, suc, zero, ◌+◌, ◌-◌, ◌<◌, ◌≤◌, List, [], ◌∷◌, ◌++◌, length, take, drop, flat_map}
+use Rattle.std.specs.Prelude.{◌≡◌, ℕ, ◌+◌, ◌<◌, ◌≤◌, List, ◌++◌, length, take, drop, flat_map}
 use Rattle.std.specs.List.{AllByRecursion}
-use Rattle.httparse.specs.Grammar.{ChunkLine, ReadsChunkLine}
-use Rattle.braid_ids.specs.Lists.{Lacks}
 use Rattle.braid_http.specs.declared.refusal.Refusal.TheVariants.{LongHead, ManyFields, BadHead, Version, BothLengths, BadLength, TooLong, BadChunk}
-use Rattle.braid_http.specs.declared.refusal.Refusal.{Refusal}
 use Rattle.braid_http.specs.declared.chunks.Place.{Place}
 use Rattle.braid_http.specs.declared.chunks.Place.TheVariants.{Line, Data, Trailer}
 use Rattle.braid_http.specs.declared.chunks.Fed.{Fed}
 use Rattle.braid_http.specs.declared.chunks.Fed.TheVariants.{Passed, Open, Done, Refused, Memory}
-use Rattle.braid_http.specs.Heads.{HasNoBlock}
 use Rattle.braid_http.specs.Looks.{IsLooked}
-use Rattle.braid_http.specs.Chunks.{IsCut, Announces, Chunk, IsChunk, print_chunk, chunk_data, Close, Closes, bad_chunk, too_long, EndsChunked, IsChunked}
+use Rattle.braid_http.specs.Chunks.{Announces, Chunk, IsChunk, print_chunk, chunk_data, Close, Closes, bad_chunk, too_long, EndsChunked, IsChunked}
 
 -- the trailer was looked at within these bytes
 abbrev pub IsPlace : Place → List ℕ → Type 0

@@ -1,6 +1,5 @@
 -- What is known while bytes are waited for.
-use Rattle.std.specs.Prelude.{◌≡◌, ◌≢◌, ℕ, ◌≤◌, ◌<◌, List, [], ◌++◌, length, Result, Ok, Err}
-use Rattle.std.specs.Io.KnownBytes.{IsAtEnd}
+use Rattle.std.specs.Prelude.{◌≡◌, ◌≢◌, ℕ, ◌<◌, List, [], ◌++◌, length, Result, Ok, Err}
 use Rattle.braid_io.specs.Outside.{Intake}
 use Rattle.httparse.specs.Grammar.{RequestHead}
 use Rattle.braid_http.specs.declared.stop.Stop.{Stop}

@@ -7,7 +7,7 @@
 //!
 //! `reply_bytes` gives the bytes of each reply, and `closing` puts `Connection: close` into one.
 //!
-//! Not promised: that a read ends, and how long the memory of a body lasts.
+//! Not promised: that a read ends, or that what was written reaches anyone.
 #![tactic(auto)]
 
 mod chunks;
@@ -30,5 +30,7 @@ pub use request::{Asked, Request};
 pub use stop::Stop;
 pub use wire::Wire;
 
+#[cfg(test)]
+mod reply_tests;
 #[cfg(test)]
 mod tests;

@@ -1,4 +1,4 @@
-use Rattle.std.proofs.Common.{◌≡◌, ◌<◌, length, arith, refl, rules}
+use Rattle.std.proofs.Common.{◌≡◌, ◌<◌, length, arith, rules}
 use Rattle.braid_http.proofs.StepLaws.{first_departs, one_cr, none_cr, second_departs, crlf_first, behind_open, behind_bad, behind_done}
 use Rattle.braid_http.proofs.chunks.behind_data.Goals as goal
 

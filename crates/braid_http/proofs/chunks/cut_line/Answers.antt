@@ -1,4 +1,3 @@
-use Rattle.std.proofs.Common.{refl}
 use Rattle.braid_http.proofs.StepLaws.{cut_here, cut_long}
 use Rattle.braid_http.proofs.chunks.cut_line.Goals as goal
 

@@ -1,4 +1,4 @@
-use Rattle.std.proofs.Common.{◌≡◌, ◌∙◌, ◌||◌, true, false, ap, sym, refl}
+use Rattle.std.proofs.Common.{◌∙◌, ◌||◌, ap, sym}
 use Rattle.std.specs.List.{list_any}
 use Rattle.braid_http.specs.Framings.{is_close, parts_of}
 use Rattle.braid_http.proofs.Parts.{found_part, last_part}

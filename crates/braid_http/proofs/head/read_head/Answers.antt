@@ -1,10 +1,7 @@
-use Rattle.std.proofs.Common.{rules, ◌≡◌, ◌≤◌, ℕ, List, [], All, length, take, map, sym, ap, subst, ◌∙◌, refl}
-use Rattle.httparse.specs.Grammar.{RequestHead}
-use Rattle.httparse.specs.Spans.{IsRequestAt, IsRequestOf, AreFieldsAt}
+use Rattle.std.proofs.Common.{rules, ◌≡◌, take, sym, subst, ◌∙◌}
+use Rattle.httparse.specs.Spans.{IsRequestAt}
 use Rattle.http_header.specs.Token.{IsToken}
-use Rattle.braid_http.specs.Fields.{IsWhole}
-use Rattle.braid_http.specs.HeadReads.{Holds, IsGoodAt}
-use Rattle.braid_http.proofs.WholeLemmas.{same_token, all_good, all_short, same_fields, whole_of}
+use Rattle.braid_http.proofs.WholeLemmas.{same_token, all_good, whole_of}
 use Rattle.braid_http.proofs.head.read_head.Goals as goal
 
 pub returns-in-Err-Invalid-clause-bad : goal.returns-in-Err-Invalid-clause-bad

@@ -1,4 +1,4 @@
-use Rattle.std.proofs.Common.{◌≡◌, ◌∙◌, ◌++◌, ◌+◌, [], ap, length, codes, decimal}
+use Rattle.std.proofs.Common.{◌∙◌, ◌++◌, ◌+◌, ap, length, codes, decimal}
 use Rattle.braid_http.specs.Replies.{type_line, phrase_of, allow_lines, close_lines}
 use Rattle.braid_http.proofs.ReplyTexts.{seven, error_lines}
 use Rattle.braid_http.proofs.reply.error_bytes.Goals as goal

@@ -1,4 +1,4 @@
-use Rattle.std.proofs.Common.{◌∙◌, sym}
+use Rattle.std.proofs.Common.{◌∙◌}
 use Rattle.std.proofs.lemmas.List.{take_rest}
 use Rattle.braid_http.proofs.Looking.{look_new}
 use Rattle.braid_http.proofs.ClosedTexts.{has_block, splits}

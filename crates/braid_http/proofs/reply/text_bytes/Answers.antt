@@ -1,4 +1,4 @@
-use Rattle.std.proofs.Common.{◌≡◌, ◌∙◌, ◌++◌, [], ap, length, codes, decimal, encode_utf8_all}
+use Rattle.std.proofs.Common.{◌≡◌, ◌∙◌, ◌++◌, ap, length, codes, decimal, encode_utf8_all}
 use Rattle.braid_change.specs.Spellings.{parents_text as list_text}
 use Rattle.braid_http.specs.Replies.{type_line}
 use Rattle.braid_http.proofs.ReplyTexts.{six, text_lines}

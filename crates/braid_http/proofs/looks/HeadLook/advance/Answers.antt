@@ -1,4 +1,4 @@
-use Rattle.std.proofs.Common.{◌≡◌, ◌∙◌, ◌-◌, drop, length, sym, refl, rules}
+use Rattle.std.proofs.Common.{◌∙◌, sym, refl}
 use Rattle.std.proofs.lemmas.List.{take_rest}
 use Rattle.braid_http.proofs.Looking.{head_passed, begins_passed, start_within}
 use Rattle.braid_http.proofs.looks.HeadLook.advance.Goals as goal

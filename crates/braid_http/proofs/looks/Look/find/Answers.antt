@@ -1,6 +1,6 @@
 use Rattle.std.proofs.Common.{arith, refl}
 use Rattle.braid_http.proofs.LineLaws.{not_true}
-use Rattle.braid_http.proofs.Looking.{look_on, look_end, look_all, full_fits, look_falls, seen_within}
+use Rattle.braid_http.proofs.Looking.{look_on, look_end, look_all, full_fits}
 use Rattle.braid_http.proofs.looks.Look.find.Goals as goal
 
 pub returns-then-is_empty_line : goal.returns-then-is_empty_line
