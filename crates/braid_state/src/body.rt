@@ -1,6 +1,6 @@
 //! The updates of a state's text, and its end.
 
-ghost use Rattle.std.specs.Prelude.{◌≡◌, ◌+◌, ◌≤◌, ◌++◌, List, [], ℕ, length, IfOk, IfErr};
+ghost use Rattle.std.specs.Prelude.{◌≡◌, ◌+◌, ◌++◌, List, [], ℕ, length, IfOk, IfErr};
 ghost use Rattle.braid_grammar.specs.Streams.{IsGap};
 ghost use Rattle.braid_frame.specs.Framing.{StandsFor};
 ghost use Rattle.braid_state.specs.States.{UpdatesThen, end_mark};
@@ -27,7 +27,6 @@ pub fn read_body<'a>(
     unsent: u64,
     bytes: &'a [u8],
 ) -> Result<Body, Stop<'a>>
-    requires few { confirmed + unsent ≤ 524_288 }
     ensures counted { IfOk result (λ body. (length body.confirmed.items ≡ confirmed) × (length body.unsent.items ≡ unsent)) }
     ensures ok { IfOk result (λ body. (gap : List ℕ) × IsGap gap × UpdatesThen (body.confirmed.items ++ body.unsent.items) (gap ++ end_mark) bytes.now) }
     ensures stop { IfErr result (λ stop. IfBad stop (λ rest. IsBadBody (confirmed + unsent) rest bytes.now)) }

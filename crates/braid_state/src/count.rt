@@ -1,6 +1,6 @@
 //! Numbers of updates.
 
-ghost use Rattle.std.specs.Prelude.{◌≡◌, ℕ, ◌+◌, ◌≤◌, min, MatchOption};
+ghost use Rattle.std.specs.Prelude.{◌≡◌, min, MatchOption};
 ghost use Rattle.braid_state.specs.Heads.{IsCount, count_of};
 
 /// The most updates of a state, confirmed and unsent ones together.

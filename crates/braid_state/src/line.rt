@@ -1,6 +1,6 @@
 //! The lines at the head of a state's text.
 
-ghost use Rattle.std.specs.Prelude.{◌≡◌, ◌≢◌, ◌∷◌, ◌++◌, [], List, ℕ, MatchOption};
+ghost use Rattle.std.specs.Prelude.{◌≡◌, ◌≢◌, ◌∷◌, ◌++◌, List, ℕ, MatchOption};
 ghost use Rattle.braid_ids.specs.Lists.{Lacks};
 ghost use Rattle.braid_state.specs.Heads.{name_of};
 
