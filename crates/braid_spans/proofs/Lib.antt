@@ -1,0 +1,12 @@
+pub mod Chains
+pub mod Lists
+pub mod Sizes
+pub mod Spelling
+pub mod Cutting
+pub mod Passing
+pub mod SeenSteps
+pub mod Marking
+pub mod Putting
+pub mod Seeing
+pub mod FullMarks
+pub mod Sound

@@ -1,0 +1,30 @@
+use Rattle.std.proofs.Common.{◌≡◌, ◌<◌, ◌≤◌, ◌^◌, ◌∙◌, List, All, length, sym, ap, subst, arith, take, drop, map, ℕ, ◌-◌, ◌++◌}
+use Rattle.braid_tree.specs.Seen.{seen_rows, place_in}
+use Rattle.braid_spans.specs.SeenRuns.{seen_places}
+use Rattle.braid_spans.specs.Spans.{SpanView, spelled, rows_of, deletions_of}
+use Rattle.braid_spans.specs.declared.run.Run.{Run}
+use Rattle.braid_spans.specs.declared.link.Link.{Link}
+use Rattle.braid_spans.specs.Kept.{reach, chains_of}
+use Rattle.braid_spans.proofs.Sound.{all_reached, places_answer}
+use Rattle.braid_spans.proofs.document.SpanDocumentDocument.visible_between.Goals as goal
+
+pub push_visible-requires-clause-within : goal.push_visible-requires-clause-within
+push_visible-requires-clause-within c =
+    let in' = c.self.inside in
+    subst (λ (t : List Link). All (λ (r : Run). reach r.newest ≤ length t) c.all.result.now) (sym c.deref.ensures.value)
+    (subst (All (λ (r : Run). reach r.newest ≤ length in'.links.items)) (sym c.all.ensures.value)
+    (all_reached (length in'.versions.items) in'.chars.items in'.links.items in'.runs.list c.self.invariant.0.fitting))
+
+pub returns : goal.returns
+returns c =
+    let in' = c.self.inside in
+    let marks = c.args.marks.now in
+    let links = c.deref.result.now in
+    let rs = c.all.result.now in
+    record {
+      ok = subst (λ (v : SpanView). c.push_visible.new.places.items ≡ take (c.args.to - c.args.from) (drop c.args.from (map place_in (seen_rows marks (deletions_of (spelled v.runs)) (rows_of (spelled v.runs)))))) c.self.view_is
+          (c.in_ok-push_visible.ensures.ok
+          ∙ ap (λ t. t ++ take c.saturating_sub.result (drop c.args.from (seen_places marks (chains_of links) rs))) c.new-places.ensures.items
+          ∙ ap (λ (n : ℕ). take n (drop c.args.from (seen_places marks (chains_of links) rs))) c.saturating_sub.ensures
+          ∙ ap (λ t. take (c.args.to - c.args.from) (drop c.args.from t)) (places_answer in'.versions.items in'.chars.items in'.links.items in'.runs.list in'.deletions c.self.invariant.0 marks links rs c.deref.ensures.value c.all.ensures.value));
+    }

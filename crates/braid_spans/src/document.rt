@@ -1,0 +1,204 @@
+ghost use Rattle.std.specs.Prelude.{◌≡◌, ◌+◌, ◌-◌, ◌<◌, ◌≤◌, ◌^◌, ◌++◌, ◌∷◌, [], Contains, MatchOption, length};
+ghost use Rattle.braid_tree.specs.Rows.{HasPlace, AreNewOrdinals, AreKnown, PutsRun, PutsOne, ListsWithRun, HasRoomFor, Spends};
+ghost use Rattle.braid_spans.specs.Spans.{spelled, rows_of, deletions_of};
+
+use crate::deleting::note_deletion;
+use crate::inserting::put_run;
+use crate::left::Left;
+use crate::link::Link;
+use crate::runs::Runs;
+use crate::version::Version;
+use crate::visible::{Piece, count_visible, nth_visible, push_text, push_visible};
+use braid_ids::{Id, Marks, Memory};
+use braid_tree::{At, Document};
+use std::alloc::Global;
+use std::marker::Model;
+
+/// A document with one run for what was typed together and is deleted by the same versions.
+///
+/// A run takes 36 bytes, a character 4, a deletion that is not joined to a neighbour's 12, and a version its identifier
+/// and 32 more; each up to twice that while room for more is kept, and two runs for each element and deletion that room
+/// is kept for.
+///
+/// A run or a deletion looks its element up from both ends of the runs, and moves the runs behind it once. A version that
+/// deletes neighbours one after the other leaves one run more of them, or two. Where the marks hold every version `len`
+/// takes constant time; else it is one pass over the runs, as `visible_at`, `visible_between` and `text` are.
+#[derive(Drop)]
+pub struct SpanDocument {
+    versions: Vec<Version>,
+    chars: Vec<char>,
+    links: Vec<Link>,
+    runs: Runs,
+    deletions: u32,
+    left: Left,
+}
+
+impl Model for SpanDocument {
+    ghost use Rattle.std.specs.Prelude.{vec_len, vec_capacity};
+    ghost use Rattle.braid_spans.specs.Spans.{SpanView};
+    ghost use Rattle.braid_spans.specs.Kept.{stamps_in, spans_of, chains_of, room_of, IsSound, HasLeft};
+
+    ghost Value = { SpanView };
+
+    ghost view = { λ d. record {
+      stamps = stamps_in d.versions.items;
+      runs = spans_of d.chars.items (chains_of d.links.items) d.runs.list;
+      room = room_of d.left;
+    } };
+
+    ghost invariant = { λ d. IsSound d.versions.items d.chars.items d.links.items d.runs.list d.deletions
+        × HasLeft d.left (vec_len d.versions) (vec_capacity d.versions) (vec_len d.chars) (vec_capacity d.chars)
+        (vec_len d.links) (vec_capacity d.links) d.deletions d.runs.room };
+}
+
+impl SpanDocument {
+    /// The document without versions, elements and deletions. It takes no memory.
+    pub fn new(alloc: Global) -> SpanDocument
+        ensures stamps { result.stamps ≡ [] }
+        ensures runs { result.runs ≡ [] }
+    {
+        SpanDocument {
+            versions: Vec::new(alloc),
+            chars: Vec::new(alloc),
+            links: Vec::new(alloc),
+            runs: Runs::new(alloc),
+            deletions: 0,
+            left: Left {
+                versions: 0,
+                elements: 0,
+                deletions: 0,
+            },
+        }
+    }
+
+    /// How many runs there are. It takes no memory.
+    pub fn runs(&self) -> u32
+        ensures count { result ≡ length self.now.runs }
+    {
+        self.runs.len() as u32
+    }
+}
+
+impl Document for SpanDocument {
+    ghost stamps = { λ d. d.stamps };
+
+    ghost rows = { λ d. rows_of (spelled d.runs) };
+
+    ghost removed = { λ d. deletions_of (spelled d.runs) };
+
+    ghost room = { λ d. d.room };
+
+    fn reserve(&mut self, versions: u32, elements: u32, deletions: u32) -> Result<(), Memory> {
+        let versions = versions.max(self.left.versions);
+        let elements = elements.max(self.left.elements);
+        let deletions = deletions.max(self.left.deletions);
+        self.versions.reserve(versions as usize)?;
+        self.chars.reserve(elements as usize)?;
+        self.links.reserve(deletions as usize)?;
+        self.runs
+            .reserve(2 * (elements as usize + deletions as usize))?;
+        self.left = Left {
+            versions,
+            elements,
+            deletions,
+        };
+        Ok(())
+    }
+
+    fn begin(&mut self, id: Id, level: u32) {
+        self.versions.push_reserved(Version { id, level });
+        self.left.versions -= 1;
+    }
+
+    fn insert_run(&mut self, after: Option<At>, text: &[char], ordinal: u32)
+        requires begun { 0 < length self.old.stamps }
+        requires there { MatchOption after (Unit {0}) (HasPlace (rows_of (spelled self.old.runs))) }
+        requires ordinals { AreNewOrdinals (rows_of (spelled self.old.runs)) (length self.old.stamps - 1) ordinal }
+        requires roomy { HasRoomFor self.old.room 0 (length text.now) 0 }
+        requires fits { ordinal + length text.now < 2 ^ 32 }
+        ensures stamps { self.new.stamps ≡ self.old.stamps }
+        ensures put { PutsRun (rows_of (spelled self.old.runs)) (rows_of (spelled self.new.runs)) (length self.old.stamps - 1) after ordinal text.now }
+        ensures placed { ListsWithRun self.old.stamps (rows_of (spelled self.old.runs)) (rows_of (spelled self.new.runs)) after ordinal text.now }
+        ensures deletions { deletions_of (spelled self.new.runs) ≡ deletions_of (spelled self.old.runs) }
+        ensures room { Spends self.old.room self.new.room 0 (length text.now) 0 }
+        ensures known { AreKnown self.new.stamps (rows_of (spelled self.new.runs)) }
+        ensures runs { length self.new.runs ≤ length self.old.runs + 2 }
+        ensures none { length text.now ≡ 0 → self.new.runs ≡ self.old.runs }
+    {
+        let first = At {
+            version: (self.versions.len() - 1) as u32,
+            ordinal,
+        };
+        if text.is_empty() {
+            return;
+        }
+        put_run(
+            &self.versions,
+            &mut self.chars,
+            &mut self.runs,
+            first,
+            after,
+            text,
+        );
+        self.left.elements -= text.len() as u32;
+    }
+
+    fn delete(&mut self, at: At)
+        requires begun { 0 < length self.old.stamps }
+        requires there { HasPlace (rows_of (spelled self.old.runs)) at }
+        requires once { ¬ (Contains (deletions_of (spelled self.old.runs)) (record { at = at; by = length self.old.stamps - 1 })) }
+        requires roomy { HasRoomFor self.old.room 0 0 1 }
+        ensures deletions { PutsOne (deletions_of (spelled self.old.runs)) (record { at = at; by = length self.old.stamps - 1 })
+            (deletions_of (spelled self.new.runs)) }
+        ensures stamps { self.new.stamps ≡ self.old.stamps }
+        ensures rows { rows_of (spelled self.new.runs) ≡ rows_of (spelled self.old.runs) }
+        ensures room { Spends self.old.room self.new.room 0 0 1 }
+        ensures runs { length self.new.runs ≤ length self.old.runs + 2 }
+    {
+        let by = (self.versions.len() - 1) as u32;
+        note_deletion(&mut self.runs, &mut self.links, at, by);
+        self.deletions += 1;
+        self.left.deletions -= 1;
+    }
+
+    fn len(&self, marks: &Marks) -> u32 {
+        if marks.is_full() && marks.size() as usize >= self.versions.len() {
+            return self.runs.undeleted();
+        }
+        count_visible(marks, &self.links, self.runs.all())
+    }
+
+    fn visible_at(&self, marks: &Marks, n: u32) -> Option<At> {
+        nth_visible(marks, &self.links, self.runs.all(), n).ok()
+    }
+
+    fn visible_between(
+        &self,
+        alloc: Global,
+        marks: &Marks,
+        from: u32,
+        to: u32,
+    ) -> Result<Vec<At>, Memory> {
+        let mut places = Vec::new(alloc);
+        let mut piece = Piece {
+            skip: from,
+            take: to.saturating_sub(from),
+        };
+        push_visible(&mut places, marks, &self.links, self.runs.all(), &mut piece)?;
+        Ok(places)
+    }
+
+    fn text(&self, alloc: Global, marks: &Marks) -> Result<Vec<char>, Memory> {
+        let mut text = Vec::new(alloc);
+        push_text(&mut text, marks, &self.links, &self.chars, self.runs.all())?;
+        Ok(text)
+    }
+
+    fn elements(&self) -> u32 {
+        self.chars.len() as u32
+    }
+
+    fn deletions(&self) -> u32 {
+        self.deletions
+    }
+}
