@@ -15,7 +15,8 @@ use crate::room::Room;
 use braid_change::{Text, Update};
 use braid_graph::Graph;
 use braid_ids::{Frontier, Id, Marks, Memory, Unknown};
-use braid_tree::{Document, PlainDocument};
+use braid_spans::SpanDocument;
+use braid_tree::Document;
 use std::alloc::Global;
 use std::marker::Model;
 
@@ -25,19 +26,21 @@ use std::marker::Model;
 /// document of all elements, which stand for the history.
 #[derive(Drop)]
 pub struct Resource {
-    history: History<PlainDocument>,
+    history: History<SpanDocument>,
 }
 
 impl Model for Resource {
     ghost use Rattle.std.specs.Prelude.{List};
     ghost use Rattle.braid_change.specs.Updates.{UpdateView};
+    ghost use Rattle.braid_spans.specs.Spans.{spelled, rows_of, deletions_of};
     ghost use Rattle.braid_text.specs.Standing.{Stands};
 
     ghost Value = { List UpdateView };
 
     ghost view = { λ r. r.history.updates.items };
 
-    ghost invariant = { λ r. Stands r.history.updates.items r.history.graph r.history.document.stamps r.history.document.rows r.history.document.deletions };
+    ghost invariant = { λ r. Stands r.history.updates.items r.history.graph r.history.document.stamps
+        (rows_of (spelled r.history.document.runs)) (deletions_of (spelled r.history.document.runs)) };
 }
 
 impl Resource {
@@ -49,7 +52,7 @@ impl Resource {
             history: History {
                 updates: Vec::new(alloc),
                 graph: Graph::new(alloc),
-                document: PlainDocument::new(alloc),
+                document: SpanDocument::new(alloc),
             },
         }
     }
