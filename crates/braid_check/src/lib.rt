@@ -25,4 +25,6 @@ mod taking;
 pub use check::{check_run, refuse_words};
 
 #[cfg(test)]
+mod long_chain;
+#[cfg(test)]
 mod tests;
