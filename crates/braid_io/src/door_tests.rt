@@ -80,101 +80,144 @@ fn pair_of(alloc: Global) -> Result<(MemDoor, MemBell), Memory>
     Ok((door, MemBell::new(2)))
 }
 
+/// Whether the link was read, written and failed to be read so.
+fn tells(link: &MemLink, taken: &[u8], written: &[u8], faults: u64) -> bool {
+    link.taken() == taken && link.written() == written && link.read_faults() == faults
+}
+
+/// What four visits at a door come to.
+fn visits(door: &mut MemDoor) -> [bool; 4] {
+    let first = serve_one(door);
+    let second = serve_one(door);
+    let third = serve_one(door);
+    [first, second, third, serve_one(door)]
+}
+
+/// Whether the door counted those visits and keeps the links.
+fn keeps_visits(door: &MemDoor) -> bool {
+    let [first, second] = door.served() else {
+        return false;
+    };
+    door.calls() == 4
+        && door.faults() == 1
+        && tells(first, b"abc", b"abc", 0)
+        && tells(second, b"", b"", 1)
+}
+
 #[test]
 fn a_door_keeps_the_links_put_back(rt: HostRuntime) -> Result<(), Fail> {
     let (mut door, _) = pair_of(rt.alloc())?;
-    for answer in [true, false, false, false] {
-        assert_eq!(rt; serve_one(&mut door), answer);
-    }
-    assert_eq!(rt; door.calls(), 4);
-    assert_eq!(rt; door.faults(), 1);
-    let rows: [(&[u8], &[u8], u64); 2] = [(b"abc", b"abc", 0), (b"", b"", 1)];
-    assert_eq!(rt; door.served().len(), rows.len());
-    for (link, (taken, written, faults)) in door.served().iter().zip(rows) {
-        assert_eq!(rt; link.taken(), taken);
-        assert_eq!(rt; link.written(), written);
-        assert_eq!(rt; link.read_faults(), faults);
-    }
+    let answers = visits(&mut door);
+    let keeps = keeps_visits(&door);
+    assert!(rt; keeps && answers == [true, false, false, false]);
     Ok(())
+}
+
+/// A port with two pairs.
+fn port_of(alloc: Global) -> Result<MemPort, Memory> {
+    let mut pairs = Vec::new(alloc);
+    pairs.push(pair_of(alloc)?)?;
+    pairs.push(pair_of(alloc)?)?;
+    Ok(MemPort::new(alloc, pairs, Vec::new(alloc)))
+}
+
+/// How many pairs a port gives for so many workers.
+fn given(port: &mut MemPort, alloc: Global, server: &Bytes, workers: u32) -> Option<usize> {
+    match port.open(alloc, server, workers, 7) {
+        Opened::Up(pairs) => Some(pairs.len()),
+        Opened::Failed | Opened::Memory => None,
+    }
 }
 
 #[test]
 fn a_port_gives_its_pairs_once(rt: HostRuntime) -> Result<(), Fail> {
     let alloc = rt.alloc();
-    let mut pairs = Vec::new(alloc);
-    pairs.push(pair_of(alloc)?)?;
-    pairs.push(pair_of(alloc)?)?;
-    let mut port = MemPort::new(alloc, pairs, Vec::new(alloc));
     let server = Bytes::of(alloc, b"localhost:9000")?;
-    for (workers, given) in [(3, None), (1, Some(1)), (1, Some(1)), (1, None)] {
-        let count = match port.open(alloc, &server, workers, 7) {
-            Opened::Up(pairs) => Some(pairs.len()),
-            Opened::Failed | Opened::Memory => None,
-        };
-        assert_eq!(rt; count, given);
-    }
-    assert_eq!(rt; port.calls(), 4);
-    assert_eq!(rt; port.faults(), 2);
-    assert_eq!(rt; port.asked().len(), 4);
-    let mut bell = MemBell::new(2);
-    for answer in [Rang::Again, Rang::Again, Rang::End, Rang::End] {
-        bell.ring();
-        assert_eq!(rt; bell.wait(), answer);
-    }
-    assert_eq!(rt; bell.agains(), 2);
-    assert_eq!(rt; bell.rings(), 4);
+    let mut port = port_of(alloc)?;
+    let three = given(&mut port, alloc, &server, 3);
+    let one = given(&mut port, alloc, &server, 1);
+    let other = given(&mut port, alloc, &server, 1);
+    let none = given(&mut port, alloc, &server, 1);
+    let counts = (port.calls(), port.faults(), port.asked().len());
+    assert!(rt; [three, one, other, none] == [None, Some(1), Some(1), None] && counts == (4, 2, 4));
     Ok(())
+}
+
+#[test]
+fn a_bell_answers_so_often(rt: HostRuntime) {
+    let mut bell = MemBell::new(2);
+    bell.ring();
+    let first = bell.wait();
+    let second = bell.wait();
+    let third = bell.wait();
+    assert!(rt; (first, second, third) == (Rang::Again, Rang::Again, Rang::End));
+    assert!(rt; (bell.agains(), bell.rings()) == (2, 1));
+}
+
+/// What four calls of a dialer come to.
+fn dials(dialer: &mut MemDialer, alloc: Global, server: &Bytes) -> [bool; 4] {
+    let first = call_one(dialer, alloc, server);
+    let second = call_one(dialer, alloc, server);
+    let third = call_one(dialer, alloc, server);
+    [first, second, third, call_one(dialer, alloc, server)]
+}
+
+/// Whether the dialer counted those calls and keeps the links.
+fn keeps_talks(dialer: &MemDialer, server: &Bytes) -> bool {
+    let [first, second] = dialer.talks() else {
+        return false;
+    };
+    dialer.calls() == 4
+        && dialer.faults() == 2
+        && first.server.get() == server.get()
+        && second.server.get() == server.get()
+        && tells(&first.link, b"abc", b"abc", 0)
+        && tells(&second.link, b"", b"", 1)
 }
 
 #[test]
 fn a_dialer_keeps_the_links_hung_up(rt: HostRuntime) -> Result<(), Fail> {
     let alloc = rt.alloc();
+    let server = Bytes::of(alloc, b"localhost:9000")?;
     let fails = Vec::from_slice(alloc, &[0])?;
     let mut dialer = MemDialer::new(alloc, two_links(alloc)?, fails)?;
-    let server = Bytes::of(alloc, b"localhost:9000")?;
-    for answer in [false, true, false, false] {
-        assert_eq!(rt; call_one(&mut dialer, alloc, &server), answer);
-    }
-    assert_eq!(rt; dialer.calls(), 4);
-    assert_eq!(rt; dialer.faults(), 2);
-    let rows: [(&[u8], u64); 2] = [(b"abc", 0), (b"", 1)];
-    assert_eq!(rt; dialer.talks().len(), rows.len());
-    for (talk, (written, faults)) in dialer.talks().iter().zip(rows) {
-        assert_eq!(rt; talk.server.get(), server.get());
-        assert_eq!(rt; talk.link.written(), written);
-        assert_eq!(rt; talk.link.read_faults(), faults);
-    }
+    let answers = dials(&mut dialer, alloc, &server);
+    let keeps = keeps_talks(&dialer, &server);
+    assert!(rt; keeps && answers == [false, true, false, false]);
     Ok(())
 }
 
-/// What a load gives, or none.
-fn loaded<K: Keeper>(keeper: &mut K, alloc: Global, name: &Word) -> Option<Bytes> {
+/// Whether a load gives these bytes, or nothing where there are none.
+fn gives(keeper: &mut MemKeeper, alloc: Global, name: &Word, kept: Option<&[u8]>) -> bool {
     match keeper.load(alloc, name) {
-        Loaded::Bytes(bytes) => Some(bytes),
-        Loaded::Nothing | Loaded::Failed | Loaded::Memory => None,
+        Loaded::Bytes(bytes) => kept.is_some_and(|k| bytes.get() == k),
+        Loaded::Nothing => kept.is_none(),
+        Loaded::Failed | Loaded::Memory => false,
     }
+}
+
+/// Saves bytes. Whether that was answered so, and what is then given is this.
+fn saves(
+    keeper: &mut MemKeeper,
+    alloc: Global,
+    name: &Word,
+    row: (&[u8], Saved, &[u8]),
+) -> Result<bool, Memory> {
+    let bytes = Bytes::of(alloc, row.0)?;
+    let answer = keeper.save(alloc, name, &bytes);
+    Ok(answer == row.1 && gives(keeper, alloc, name, Some(row.2)))
 }
 
 #[test]
 fn a_keeper_gives_what_was_saved_last(rt: HostRuntime) -> Result<(), Fail> {
-    use Saved::{Done, Failed};
     let alloc = rt.alloc();
     let name = Word::of(alloc, b"notes.state")?;
-    let rows: [(&[u8], Saved, &[u8]); 3] = [
-        (b"one", Done, b"one"),
-        (b"two", Failed, b"one"),
-        (b"two", Done, b"two"),
-    ];
-    let mut keeper = MemKeeper::new(Vec::new(alloc), Vec::from_slice(alloc, &[0, 3])?);
-    assert!(rt; loaded(&mut keeper, alloc, &name).is_none());
-    for (bytes, answer, kept) in rows {
-        let bytes = Bytes::of(alloc, bytes)?;
-        assert_eq!(rt; keeper.save(alloc, &name, &bytes), answer);
-        let found = loaded(&mut keeper, alloc, &name);
-        assert!(rt; found.is_some_and(|b| b.get() == kept));
-    }
-    assert_eq!(rt; keeper.calls(), 7);
-    assert_eq!(rt; keeper.load_faults(), 1);
-    assert_eq!(rt; keeper.save_faults(), 1);
+    let mut keeper = MemKeeper::new(Vec::new(alloc), Vec::from_slice(alloc, &[3])?);
+    let none = gives(&mut keeper, alloc, &name, None);
+    let first = saves(&mut keeper, alloc, &name, (b"one", Saved::Done, b"one"))?;
+    let failed = saves(&mut keeper, alloc, &name, (b"two", Saved::Failed, b"one"))?;
+    let second = saves(&mut keeper, alloc, &name, (b"two", Saved::Done, b"two"))?;
+    let counts = (keeper.calls(), keeper.load_faults(), keeper.save_faults());
+    assert!(rt; none && first && failed && second && counts == (7, 0, 1));
     Ok(())
 }
