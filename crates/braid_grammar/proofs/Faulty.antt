@@ -24,7 +24,7 @@ use Rattle.braid_grammar.proofs.Gaps.{none_reads}
 use Rattle.braid_grammar.proofs.ReadContents.{content_wrong}
 
 -- the reader of what this owner's head begins has this fault
-abbrev FailsAt : Owner → ℕ → List ℕ → ℕ → Reason → Type 0
+abbrev pub FailsAt : Owner → ℕ → List ℕ → ℕ → Reason → Type 0
 FailsAt AnUpdate at bytes to reason = update_at at bytes ≡ Bad to reason
 FailsAt (APatch used before) at bytes to reason = patch_at used before at bytes ≡ Bad to reason
 
@@ -79,7 +79,7 @@ wrong_head_fails (APatch used before) at bytes r w =
 content_fails : (at : ℕ) (content more : List ℕ) → ((text : List ℕ) → IsTextOf text content → ⊥) → content_at (length content) at (content ++ more) ≡ Bad at NotText
 content_fails at content more h = content_wrong (length content) at (content ++ more) content (omega (arith, length-append content more)) (sym (take_at content more (length content) refl)) h
 
-change_fails : (a : Asks) (at : ℕ) (content more : List ℕ) → AsksLength a (length content) → ((text : List ℕ) → IsTextOf text content → ⊥) → change_at a at (content ++ more) ≡ Bad at NotText
+pub change_fails : (a : Asks) (at : ℕ) (content more : List ℕ) → AsksLength a (length content) → ((text : List ℕ) → IsTextOf text content → ⊥) → change_at a at (content ++ more) ≡ Bad at NotText
 change_fails (asks.Body n) at content more e h = let c = content_fails at content more h in rw (e, c) refl
 change_fails (asks.OnePatch plan) at content more e h = let c = content_fails at content more h in rw (e, c) refl
 change_fails (asks.Patches n) at content more e h = absurd e
@@ -104,14 +104,14 @@ at_once : (at k : ℕ) → k ≡ 0 → at ≡ at + k
 at_once at k e = omega (arith, e)
 
 -- what is wrong behind the first byte of a head is what its reader finds
-wrong_fails : (owner : Owner) (at : ℕ) (bytes : List ℕ) (k : ℕ) (r : Reason) → IsWrongBehind owner bytes k r → FailsAt owner at bytes (at + k) r
+pub wrong_fails : (owner : Owner) (at : ℕ) (bytes : List ℕ) (k : ℕ) (r : Reason) → IsWrongBehind owner bytes k r → FailsAt owner at bytes (at + k) r
 wrong_fails owner at bytes k r (by_line w) = head_fails owner at bytes (at + k) r (line_fails owner at bytes k r w)
 wrong_fails owner at bytes k r (by_length z e w) = head_fails owner at bytes (at + k) r (long_fails owner at bytes w ∙ ap (λ s. Bad at s) (sym e) ∙ ap (λ n. Bad n r) (at_once at k z))
 wrong_fails owner at bytes k r (by_head z w) = subst (λ n. FailsAt owner at bytes n r) (at_once at k z) (wrong_head_fails owner at bytes r w)
 wrong_fails owner at bytes k r (by_content e w) = subst (λ s. FailsAt owner at bytes (at + k) s) (sym e) (wrong_content_fails owner at bytes k w)
 
 -- whole patches, and then a patch that is wrong
-patches_fail : (n used before at : ℕ) (ps : List Patch) (content rest : List ℕ) (to : ℕ) (r : Reason) → length ps < n → SpellPatches used before ps content
+pub patches_fail : (n used before at : ℕ) (ps : List Patch) (content rest : List ℕ) (to : ℕ) (r : Reason) → length ps < n → SpellPatches used before ps content
     → past_gap (patch_at (used + length (patches_content ps)) (last_end before ps)) (at + length content) rest ≡ Bad to r → patches_at n used before at (content ++ rest) ≡ Bad to r
 patches_fail zero used before at ps content rest to r l s e = absurd (omega arith)
 patches_fail (suc n) used before at [] content rest to r l s e =

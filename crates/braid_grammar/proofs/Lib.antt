@@ -20,3 +20,5 @@ pub mod ReadUpdates
 pub mod ReadStreams
 pub mod Completed
 pub mod Faulty
+pub mod Puts
+pub mod PutDifferences

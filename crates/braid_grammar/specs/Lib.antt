@@ -5,3 +5,4 @@ pub mod Readings
 pub mod Streams
 pub mod FaultPlaces
 pub mod Readers
+pub mod Puts

@@ -1,13 +1,18 @@
 //! Laws of the definitions, each the contract of a function that does nothing.
 
-ghost use Rattle.std.specs.Prelude.{◌≡◌, ◌+◌, ◌⊎◌, ◌↔◌, ◌∷◌, ◌++◌, [], List, ℕ, length};
+ghost use Rattle.std.specs.Prelude.{◌≡◌, ◌≢◌, ◌+◌, ◌⊎◌, ◌↔◌, ◌∷◌, ◌++◌, [], List, ℕ, false, Result, Err, length};
 ghost use Rattle.braid_change.specs.Updates.{UpdateView};
 ghost use Rattle.braid_change.specs.Spellings.{canonical};
 ghost use Rattle.braid_fields.specs.declared.reason.Reason.{Reason};
+ghost use Rattle.braid_fields.specs.declared.parts.Parts.{Parts};
+ghost use Rattle.braid_fields.specs.Known.{is_there};
+ghost use Rattle.braid_grammar.specs.declared.put.PutFault.{PutFault};
+ghost use Rattle.braid_grammar.specs.declared.put.PutFault.TheVariants.{Memory};
 ghost use Rattle.braid_grammar.specs.Outcomes.{Whole};
 ghost use Rattle.braid_grammar.specs.Readings.{next_at};
 ghost use Rattle.braid_grammar.specs.Streams.{IsGap, SpellsUpdate, IsStream, IsFault, Completes, IsTorn};
 ghost use Rattle.braid_grammar.specs.FaultPlaces.{IsWrongAt};
+ghost use Rattle.braid_grammar.specs.Puts.{SpellsPut, IsPutReading, with_length};
 ghost use Rattle.braid_change.specs.Updates.{IsUpdate};
 
 /// Bytes are a stream of one list of updates, or have a fault at one place for one reason, or neither. Where there is
@@ -62,4 +67,20 @@ pub fn next_is_spelled()
         → (gap : List ℕ) × (first : List ℕ) × IsGap gap × SpellsUpdate u first × (bytes ≡ gap ++ (first ++ rest)) × (to ≡ at + length gap + length first) }
     ensures spelled { (u : UpdateView) (at : ℕ) (gap first rest : List ℕ) → IsGap gap → SpellsUpdate u first
         → next_at at (gap ++ (first ++ rest)) ≡ Whole u (at + length gap + length first) rest }
+{}
+
+/// The fields and the body of a PUT have one reading: they are one update or have one fault, and not both. What is read
+/// is an update that the program can hold.
+pub fn one_put_reading()
+    ensures one { (parts : Parts) (body : List ℕ) (r s : Result UpdateView PutFault) → r ≢ Err Memory → s ≢ Err Memory
+        → IsPutReading parts body r → IsPutReading parts body s → r ≡ s }
+    ensures some { (parts : Parts) (body : List ℕ) → (r : Result UpdateView PutFault) × (r ≢ Err Memory) × IsPutReading parts body r }
+    ensures built { (u : UpdateView) (parts : Parts) (body : List ℕ) → SpellsPut u parts body → IsUpdate u }
+{}
+
+/// Of a PUT the request's own `Content-Length` is not looked at, and a body without `Patches` is the content, whole.
+pub fn put_differences()
+    ensures length { (parts : Parts) (values : List (List ℕ)) (body : List ℕ) (r : Result UpdateView PutFault) → IsPutReading parts body r
+        → IsPutReading (with_length values parts) body r }
+    ensures whole { (u : UpdateView) (parts : Parts) (body : List ℕ) → is_there parts.patches ≡ false → (s : SpellsPut u parts body) → s.whole.content ≡ body }
 {}

@@ -5,7 +5,8 @@
 //! bytes are a stream of one list of updates, or have one fault at one place, or neither: they end before that is
 //! decided. It says what a fault is in the words of the grammar, a line, a head or a content that is wrong where one
 //! may stand; and that the canonical spelling of an update is read as that update, whatever follows it. `read_stream`
-//! reads a whole slice by these definitions.
+//! reads a whole slice by these definitions, and `read_put` one update whose head's fields came with a request and whose
+//! content is the request's body.
 //!
 //! Nothing here reads a connection or keeps a part of an update between calls: that is for the crates above.
 #![tactic(auto)]
@@ -16,9 +17,11 @@ mod head;
 pub mod laws;
 mod line;
 mod patch;
+mod put;
 mod stream;
 mod update;
 
+pub use put::{PutFault, read_put};
 pub use stream::{Stream, StreamEnd, read_stream};
 
 #[cfg(test)]
