@@ -25,4 +25,6 @@ pub use put::{PutFault, read_put};
 pub use stream::{Stream, StreamEnd, read_stream};
 
 #[cfg(test)]
+mod put_tests;
+#[cfg(test)]
 mod tests;
