@@ -1,5 +1,6 @@
 //! The framer: updates out of the bytes of an update stream (Braid-HTTP, in the profile of docs/FORMATS.md), which
-//! come in pieces of any kind; and writing an update in its canonical spelling.
+//! come in pieces of any kind; and writing an update in its canonical spelling. `read_put`, which reads the one update of a
+//! request from `Parts` and a whole body, is passed on from the grammar.
 //!
 //! A framer that was fed bytes has answered exactly the updates that the bytes complete, in order, each with its last
 //! byte. Where the bytes have a fault it has answered that fault, with its place and reason, and answers it for good.
@@ -25,6 +26,7 @@ mod steps;
 mod writing;
 
 pub use braid_fields::{Parts, Reason};
+pub use braid_grammar::{PutFault, read_put};
 pub use fed::{Fed, FeedFault, FrameFault};
 pub use framer::Framer;
 pub use writing::write_update;
