@@ -62,7 +62,12 @@ fn read_asked(alloc: Global, plan: Plan, at: u64, bytes: &[u8]) -> Result<Found<
 }
 
 /// The change that a head asks for at the front of the bytes, which begin at this place.
-pub fn read_change(alloc: Global, asks: Asks, at: u64, bytes: &[u8]) -> Result<Found<Change>, Memory>
+pub fn read_change(
+    alloc: Global,
+    asks: Asks,
+    at: u64,
+    bytes: &[u8],
+) -> Result<Found<Change>, Memory>
     requires room { at + length bytes.now < 2 ^ 64 }
     ensures { IfOk result (λ found. Finds found (change_at asks at bytes.now)) }
 {
