@@ -5,8 +5,7 @@ use Rattle.braid_ids.specs.Identifiers.{spelled_id, spelled_ids}
 use Rattle.braid_io.specs.declared.status.Status.{Status}
 use Rattle.braid_io.specs.declared.status.Status.TheVariants.{Done, Bad, Outside, Cut}
 use Rattle.braid_change.specs.Updates.{UpdateView}
-use Rattle.braid_fields.specs.declared.reason.Reason.{Reason}
-use Rattle.braid_fields.specs.declared.reason.Reason.TheVariants as reasons
+use Rattle.braid_fields.specs.Reasons.{reason_name}
 use Rattle.braid_grammar.specs.Streams.{IsStream, IsTorn, HaveUpdates, BeginsWith}
 use Rattle.braid_frame.specs.declared.fed.FrameFault.{FrameFault}
 use Rattle.braid_frame.specs.Goings.{HasFault}
@@ -15,52 +14,18 @@ use Rattle.braid_text.specs.Histories.{graph_of, text_of}
 use Rattle.braid_text.specs.Digested.{digest_at}
 use Rattle.braid_text.specs.declared.accept.Accept.{Accept}
 use Rattle.braid_text.specs.declared.accept.Accept.TheVariants.{New, Known, Clash, UnknownParent, OutOfRange, Full, Memory}
-use Rattle.braid_text.specs.declared.room.Which.{Which}
-use Rattle.braid_text.specs.declared.room.Which.TheVariants.{Resources, Versions, Elements, Deletions, Width}
+use Rattle.braid_text.specs.Rooms.{which_name}
 use Rattle.braid_check.specs.declared.stop.Stop.{Stop}
 use Rattle.braid_check.specs.declared.stop.Stop.TheVariants as stops
 use Rattle.braid_check.specs.Accepted.{AreAccepted, IsRefused, history_of, limit_of, replica_answer}
 
--- the name of a reason
-abbrev pub reason_text : Reason → List ℕ
-reason_text reasons.BadLine = codes "BadLine"
-reason_text reasons.BadStatus = codes "BadStatus"
-reason_text reasons.HeadTooLong = codes "HeadTooLong"
-reason_text reasons.Encoded = codes "Encoded"
-reason_text reasons.RepeatedField = codes "RepeatedField"
-reason_text reasons.OtherMergeType = codes "OtherMergeType"
-reason_text reasons.BadList = codes "BadList"
-reason_text reasons.NoVersion = codes "NoVersion"
-reason_text reasons.ManyVersions = codes "ManyVersions"
-reason_text reasons.BadId = codes "BadId"
-reason_text reasons.TooManyParents = codes "TooManyParents"
-reason_text reasons.BadCount = codes "BadCount"
-reason_text reasons.TooManyPatches = codes "TooManyPatches"
-reason_text reasons.NoLength = codes "NoLength"
-reason_text reasons.BadLength = codes "BadLength"
-reason_text reasons.TooLong = codes "TooLong"
-reason_text reasons.NoRange = codes "NoRange"
-reason_text reasons.OtherUnit = codes "OtherUnit"
-reason_text reasons.BadRange = codes "BadRange"
-reason_text reasons.Backwards = codes "Backwards"
-reason_text reasons.Overlap = codes "Overlap"
-reason_text reasons.NotText = codes "NotText"
-
 -- the line for a fault of the stream
 abbrev pub fault_text : FrameFault → List ℕ
-fault_text f = codes "fault: " ++ reason_text f.reason ++ codes " at " ++ decimal f.at ++ codes "\n"
+fault_text f = codes "fault: " ++ reason_name f.reason ++ codes " at " ++ decimal f.at ++ codes "\n"
 
 -- the line for so many bytes that are all there are, and are neither a stream nor at fault
 abbrev pub torn_text : ℕ → List ℕ
 torn_text at = codes "fault: Torn at " ++ decimal at ++ codes "\n"
-
--- the name of a count
-abbrev pub count_text : Which → List ℕ
-count_text Resources = codes "resources"
-count_text Versions = codes "versions"
-count_text Elements = codes "elements"
-count_text Deletions = codes "deletions"
-count_text Width = codes "width"
 
 -- the line for an answer that refuses an update; the other answers have none
 abbrev pub refusal_text : Accept → List ℕ
@@ -69,7 +34,7 @@ refusal_text Known = []
 refusal_text (Clash id) = codes "fault: Clash " ++ spelled_id id ++ codes "\n"
 refusal_text (UnknownParent id) = codes "fault: UnknownParent " ++ spelled_id id ++ codes "\n"
 refusal_text (OutOfRange patch len) = codes "fault: OutOfRange patch " ++ decimal patch ++ codes " len " ++ decimal len ++ codes "\n"
-refusal_text (Full which need room) = codes "fault: Full " ++ count_text which ++ codes " " ++ decimal (limit_of which) ++ codes "\n"
+refusal_text (Full which need room) = codes "fault: Full " ++ which_name which ++ codes " " ++ decimal (limit_of which) ++ codes "\n"
 refusal_text Memory = []
 
 -- the line for a read that failed

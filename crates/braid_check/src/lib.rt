@@ -16,7 +16,6 @@ mod check;
 pub mod laws;
 mod number;
 mod reading;
-mod reason_name;
 mod refusal;
 mod report;
 mod stop;

@@ -2,8 +2,9 @@
 
 ghost use Rattle.std.specs.Prelude.{◌≡◌, ◌++◌, IfOk, codes, decimal};
 ghost use Rattle.braid_ids.specs.Identifiers.{spelled_id};
+ghost use Rattle.braid_text.specs.Rooms.{which_name};
 ghost use Rattle.braid_check.specs.Accepted.{limit_of};
-ghost use Rattle.braid_check.specs.CheckTexts.{refusal_text, count_text};
+ghost use Rattle.braid_check.specs.CheckTexts.{refusal_text};
 
 use crate::number::push_number;
 use crate::taking::REPLICA_LIMITS;
@@ -48,27 +49,14 @@ fn range_report(alloc: Global, patch: u32, len: u32) -> Result<Bytes, Memory>
 
 /// The line for a limit that an update would pass.
 fn full_report(alloc: Global, which: Which) -> Result<Bytes, Memory>
-    ensures ok { IfOk result (λ text. text ≡ codes "fault: Full " ++ count_text which ++ codes " " ++ decimal (limit_of which) ++ codes "\n") }
+    ensures ok { IfOk result (λ text. text ≡ codes "fault: Full " ++ which_name which ++ codes " " ++ decimal (limit_of which) ++ codes "\n") }
 {
     let mut line = Bytes::of(alloc, b"fault: Full ")?;
-    line.push(count_name(which).as_bytes())?;
+    line.push(which.name().as_bytes())?;
     line.push(b" ")?;
     push_number(&mut line, limit_of(which))?;
     line.push(b"\n")?;
     Ok(line)
-}
-
-/// The name of a count, as it is printed.
-fn count_name(which: Which) -> &'static str
-    ensures value { result.now ≡ count_text which }
-{
-    match which {
-        Which::Resources => "resources",
-        Which::Versions => "versions",
-        Which::Elements => "elements",
-        Which::Deletions => "deletions",
-        Which::Width => "width",
-    }
 }
 
 /// The limit of one count. There is one resource.

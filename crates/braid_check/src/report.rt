@@ -6,7 +6,6 @@ ghost use Rattle.braid_text.specs.Digested.{digest_at};
 ghost use Rattle.braid_check.specs.CheckTexts.{text_at_stop, history_text, frontier_text, torn_text, fault_text};
 
 use crate::number::push_number;
-use crate::reason_name::reason_name;
 use crate::refusal::refusal_report;
 use crate::stop::Stop;
 use braid_change::Text;
@@ -45,7 +44,7 @@ fn fault_report(alloc: Global, fault: &FrameFault) -> Result<Bytes, Memory>
     ensures ok { IfOk result (λ text. text ≡ fault_text fault.now) }
 {
     let mut line = Bytes::of(alloc, b"fault: ")?;
-    line.push(reason_name(fault.reason).as_bytes())?;
+    line.push(fault.reason.name().as_bytes())?;
     line.push(b" at ")?;
     push_number(&mut line, fault.at)?;
     line.push(b"\n")?;

@@ -1,7 +1,6 @@
 ghost use Rattle.std.specs.Prelude.{◌<◌};
 
 use super::*;
-use crate::reason_name::reason_name;
 use braid_fields::Reason;
 use braid_ids::{Bytes, Word};
 use braid_io::{MemSink, MemSource, Status};
@@ -394,7 +393,7 @@ fn a_reason_is_printed_by_its_name(rt: HostRuntime) -> Result<(), Fail> {
     ];
     for reason in reasons {
         let name = format!(in rt.alloc(); "{reason:?}")?;
-        assert_eq!(rt; reason_name(reason), name.as_str());
+        assert_eq!(rt; reason.name(), name.as_str());
     }
     Ok(())
 }

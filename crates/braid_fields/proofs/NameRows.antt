@@ -1,5 +1,5 @@
 -- Rows on the identifier and the parents, read of the strings of the two fields.
-use Rattle.std.proofs.Common.{◌≡◌, ℕ, ◌==◌, ◌||◌, Bool, true, false, cond, Result, Ok, Err, Option, Some, None, is_none, ok_or, unwrap_or, List, [], ◌∷◌, ◌++◌, length, map, refl, ap, ◌∙◌, nat_lt}
+use Rattle.std.proofs.Common.{◌≡◌, ℕ, ◌==◌, ◌||◌, Bool, true, false, cond, Result, Ok, Err, Option, Some, None, is_none, ok_or, unwrap_or, List, [], ◌∷◌, ◌++◌, length, map, refl, sym, ap, subst, ◌∙◌, nat_lt}
 use Rattle.std.specs.List.{AllByRecursion}
 use Rattle.braid_ids.specs.Frontiers.{rising_ids}
 use Rattle.braid_shelf.specs.declared.item.Item.{Item}
@@ -14,7 +14,7 @@ use Rattle.braid_fields.specs.declared.plan.PlanFault.{PlanFault}
 use Rattle.braid_fields.specs.declared.plan.PlanFault.TheVariants as faults
 use Rattle.braid_fields.specs.Values.{SpellsStrings, strings_in_value}
 use Rattle.braid_fields.specs.Table.{first_row, first_of, one_value, members_of, has_bad_id, name_rows, Plans}
-use Rattle.braid_fields.specs.Rows.{ArePrintable, version_rows, parent_rows, names_of}
+use Rattle.braid_fields.specs.Rows.{ArePrintable, id_rows, version_rows, parent_rows, list_rows, names_of}
 use Rattle.braid_fields.proofs.ValueReading.{strings_law}
 
 -- the strings of a list are printable
@@ -131,3 +131,29 @@ pub names_done : (p : Parts) (v w : List (List ℕ)) (id : List ℕ) (parents : 
     → first_row (version_rows v) (first_of v) ≡ Ok id → first_row (parent_rows w) (rising_ids w) ≡ Ok parents → first_row (name_rows p) (names_of p) ≡ Ok (id, parents)
 names_done p v w id parents e f g h =
     names_read p v w e f ∙ both_pass (length v == 0) (nat_lt 1 (length v)) (has_bad_id v) (has_bad_id w) (nat_lt 32 (length (rising_ids w))) (first_of v) id (rising_ids w) parents g h
+
+-- the lines of a field that lists identifiers
+
+abbrev list_judged : Option (List (List ℕ)) → Result (List (List ℕ)) Reason
+list_judged o = cond (is_none o) (Err reasons.BadList) (cond (has_bad_id (unwrap_or o [])) (Err reasons.BadId) (Ok (rising_ids (unwrap_or o []))))
+
+list_so : (values : List (List ℕ)) → first_row (list_rows values) (rising_ids (members_of values)) ≡ list_judged (strings_in_value (one_value values))
+unfolding members_of
+list_so values = refl
+
+list_is_none : (o : Option (List (List ℕ))) (fault : PlanFault) → Plans {A = List (List ℕ)} (Err fault) (ok_or o reasons.BadList) → Plans {A = List (List ℕ)} (Err fault) (list_judged o)
+list_is_none o faults.Memory h = tt
+list_is_none None (faults.Reason r) h = let same : reasons.BadList ≡ r = cc in ap (λ (x : Reason). Err x) same
+list_is_none (Some strings) (faults.Reason r) h = absurd cc
+
+-- lines that are no list
+pub no_list : (values : List (List ℕ)) (fault : PlanFault) → Plans {A = List (List ℕ)} (Err fault) (ok_or (strings_in_value (one_value values)) reasons.BadList)
+    → Plans {A = List (List ℕ)} (Err fault) (first_row (list_rows values) (rising_ids (members_of values)))
+no_list values fault h =
+    subst (λ (x : Result (List (List ℕ)) Reason). Plans {A = List (List ℕ)} (Err fault) x) (sym (list_so values)) (list_is_none (strings_in_value (one_value values)) fault h)
+
+-- lines that are one
+pub list_is : (values strings : List (List ℕ)) (r : Result (List (List ℕ)) PlanFault) → ok_or (strings_in_value (one_value values)) reasons.BadList ≡ Ok strings → Plans r (first_row (id_rows strings) (rising_ids strings))
+    → Plans r (first_row (list_rows values) (rising_ids (members_of values)))
+list_is values strings r e h =
+    subst (λ (x : Result (List (List ℕ)) Reason). Plans r x) (sym (list_so values ∙ (λ i. list_judged (read_strings (strings_in_value (one_value values)) strings e i)))) h

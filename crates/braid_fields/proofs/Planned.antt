@@ -164,6 +164,29 @@ set_is strings ids F e r s =
     let k = ids_ok strings ids e in
     (k.0, frontier_is F ids r s ∙ ap rising_ids (sym k.1))
 
+abbrev set_judged : Bool → List (List ℕ) → Result (List (List ℕ)) Reason
+set_judged bad F = cond bad (Err reasons.BadId) (Ok F)
+
+-- the set of strings, none of which is at fault, is the plan of the rows on them, and such a plan is the set
+pub set_planned : (strings F : List (List ℕ)) → (has_bad_id strings ≡ false) × (F ≡ rising_ids strings) → first_row (id_rows strings) (rising_ids strings) ≡ Ok F
+set_planned strings F h = ap (λ (t : Bool). set_judged t (rising_ids strings)) h.0 ∙ ap (λ (x : List (List ℕ)). Ok x) (sym h.1)
+
+pub set_read : (strings F : List (List ℕ)) → first_row (id_rows strings) (rising_ids strings) ≡ Ok F → (has_bad_id strings ≡ false) × (F ≡ rising_ids strings)
+set_read strings F e = go (has_bad_id strings) e
+  where
+    go : (bad : Bool) → set_judged bad (rising_ids strings) ≡ Ok F → (bad ≡ false) × (F ≡ rising_ids strings)
+    go true f = absurd cc
+    go false f = (refl, (let same : rising_ids strings ≡ F = cc in sym same))
+
+-- a reason against strings is one against their set, and one against parents
+pub set_fault : (strings : List (List ℕ)) (fault : PlanFault) → Refuses fault (first_row (id_rows strings) strings) → Plans {A = List (List ℕ)} (Err fault) (first_row (id_rows strings) (rising_ids strings))
+set_fault strings faults.Memory h = tt
+set_fault strings (faults.Reason r) h = rows_fault (id_rows strings) (rising_ids strings) strings r h
+
+pub parents_fault : (strings : List (List ℕ)) (fault : PlanFault) → Plans {A = List (List ℕ)} (Err fault) (first_row (id_rows strings) (rising_ids strings)) → Plans {A = List (List ℕ)} (Err fault) (first_row (parent_rows strings) (rising_ids strings))
+parents_fault strings faults.Memory h = tt
+parents_fault strings (faults.Reason r) h = rows_stop (id_rows strings) ((nat_lt 32 (length (rising_ids strings)), reasons.TooManyParents) ∷ []) (rising_ids strings) (rising_ids strings) r h
+
 abbrev parents_judged : Bool → Bool → List (List ℕ) → Result (List (List ℕ)) Reason
 parents_judged bad many F = cond bad (Err reasons.BadId) (cond many (Err reasons.TooManyParents) (Ok F))
 

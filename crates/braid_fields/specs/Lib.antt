@@ -8,4 +8,6 @@ pub mod KnownNames
 pub mod Table
 pub mod Rows
 pub mod Limits
+pub mod Reasons
+pub mod Places
 pub mod Canonical

@@ -14,7 +14,7 @@ use Rattle.braid_fields.specs.declared.plan.PlanFault.{PlanFault}
 use Rattle.braid_fields.specs.declared.plan.PlanFault.TheVariants as faults
 use Rattle.braid_fields.specs.Values.{count_in_value, length_in_value, has_other_unit, range_in_value}
 use Rattle.braid_fields.specs.Known.{is_there}
-use Rattle.braid_fields.specs.Table.{Row, is_bad_id, has_bad_id, members_of, first_of, tells_nothing, length_lines, is_no_length, length_of, is_other_unit, no_range, range_of, is_backwards, first_row, patch_plan, is_encoded, is_repeated}
+use Rattle.braid_fields.specs.Table.{Row, is_no_list, is_bad_id, has_bad_id, members_of, first_of, tells_nothing, length_lines, is_no_length, length_of, is_other_unit, no_range, range_of, is_backwards, first_row, patch_plan, is_encoded, is_repeated}
 
 -- strings of printable bytes
 abbrev pub ArePrintable : List (List ℕ) → Type 0
@@ -41,6 +41,13 @@ abbrev pub parent_rows : List (List ℕ) → List Row
 parent_rows strings =
     (has_bad_id strings, reasons.BadId)
     ∷ (nat_lt 32 (length (rising_ids strings)), reasons.TooManyParents)
+    ∷ []
+
+-- rows on the lines of a field that lists identifiers
+abbrev pub list_rows : List (List ℕ) → List Row
+list_rows values =
+    (is_no_list values, reasons.BadList)
+    ∷ (has_bad_id (members_of values), reasons.BadId)
     ∷ []
 
 -- the identifier and the parents of a head

@@ -23,9 +23,9 @@ fn has_other(values: &[Bytes]) -> bool
     values.iter().any(|value| !is_identity(value.get()))
 }
 
-/// Whether there is a `Content-Encoding` other than `identity`.
+/// Whether a value of `Content-Encoding` is another than `identity`, in any case of its letters. It takes no memory.
 #[tactic(auto, unfolding(crate::specs::Table::is_encoded))]
-pub(crate) fn is_encoded(values: &ListBytes) -> bool
+pub fn is_encoded(values: &ListBytes) -> bool
     ensures { result ≡ is_encoded values.now }
 {
     has_other(values.get())
@@ -62,9 +62,9 @@ fn has_other_type(values: &[Bytes]) -> bool
     values.iter().any(|value| !is_merge_type(value.get()))
 }
 
-/// Whether there is a `Merge-Type` of another name.
+/// Whether a value of `Merge-Type` is neither `ti-text` nor `"ti-text"`. It takes no memory.
 #[tactic(auto, unfolding(crate::specs::Table::is_other_merge_type))]
-fn is_other_merge_type(values: &ListBytes) -> bool
+pub fn is_other_merge_type(values: &ListBytes) -> bool
     ensures { result ≡ is_other_merge_type values.now }
 {
     has_other_type(values.get())

@@ -7,6 +7,8 @@
 //! say in their order. `laws` says what each word of the table means, that every plan keeps to its limits, and
 //! that the heads of a canonical spelling plan its update.
 //!
+//! Whether bytes are the address of a server or a path is told here too.
+//!
 //! Nothing here knows lines of a stream, places or contents: what stands where is for the crate above.
 #![tactic(auto)]
 
@@ -22,16 +24,20 @@ mod line;
 mod names;
 mod parts;
 mod patch;
+mod place;
 mod plan;
 mod range;
 mod reason;
 mod status;
 
+pub use checks::{is_encoded, is_other_merge_type};
 pub use field::read_field;
 pub use head::{plan_head, plan_put};
 pub use line::is_empty_line;
+pub use names::list_ids;
 pub use parts::{HeadFields, Parts};
 pub use patch::plan_patch;
+pub use place::{is_path, is_server};
 pub use plan::{Asks, PatchPlan, Plan, PlanFault};
 pub use reason::Reason;
 pub use status::{is_good_status, is_status};

@@ -3,8 +3,8 @@
 ghost use Rattle.std.specs.Prelude.{◌≡◌, Ok, IfOk, IfErr};
 ghost use Rattle.braid_ids.specs.Frontiers.{rising_ids};
 ghost use Rattle.braid_shelf.specs.ByteClasses.{Are, is_printable};
-ghost use Rattle.braid_fields.specs.Table.{first_row, first_of, name_rows, Plans};
-ghost use Rattle.braid_fields.specs.Rows.{ArePrintable, one_id_rows, id_rows, version_rows, parent_rows, names_of, Refuses};
+ghost use Rattle.braid_fields.specs.Table.{first_row, first_of, members_of, name_rows, Plans};
+ghost use Rattle.braid_fields.specs.Rows.{ArePrintable, one_id_rows, id_rows, version_rows, parent_rows, list_rows, names_of, Refuses};
 
 use crate::joined::members;
 use crate::parts::Parts;
@@ -57,15 +57,24 @@ fn read_ids(alloc: Global, strings: &[Bytes]) -> Result<Vec<Id>, PlanFault>
 }
 
 /// The set of identifiers that the strings are.
-fn parents_of(alloc: Global, strings: &ListBytes) -> Result<Frontier, PlanFault>
+fn set_of(alloc: Global, strings: &ListBytes) -> Result<Frontier, PlanFault>
     requires printable { ArePrintable strings.now }
-    ensures parents { Plans result (first_row (parent_rows strings.now) (rising_ids strings.now)) }
+    ensures set { Plans result (first_row (id_rows strings.now) (rising_ids strings.now)) }
 {
     let ids = read_ids(alloc, strings.get())?;
     if ids.len() > MOST_MEMBERS {
         return Err(PlanFault::Memory);
     }
-    let parents = Frontier::of(ids)?;
+    let set = Frontier::of(ids)?;
+    Ok(set)
+}
+
+/// The parents that the strings are.
+fn parents_of(alloc: Global, strings: &ListBytes) -> Result<Frontier, PlanFault>
+    requires printable { ArePrintable strings.now }
+    ensures parents { Plans result (first_row (parent_rows strings.now) (rising_ids strings.now)) }
+{
+    let parents = set_of(alloc, strings)?;
     if parents.len() > MOST_PARENTS {
         return Err(PlanFault::Reason(Reason::TooManyParents));
     }
@@ -81,4 +90,16 @@ pub(crate) fn names(alloc: Global, parts: &Parts) -> Result<(Id, Frontier), Plan
     let id = version_id(alloc, &version)?;
     let parents = parents_of(alloc, &parents)?;
     Ok((id, parents))
+}
+
+/// The set of identifiers that the lines of a field list, joined by commas (RFC 8941, section 4.2): in rising order, each
+/// once; none where there is no line. There is no limit on their number.
+///
+/// A fault is `BadList` where the joined lines are no List of Strings without parameters, else `BadId` where a member has
+/// 0 or more than 128 bytes. Memory may be answered for any lines. The lines stay as they were.
+pub fn list_ids(alloc: Global, values: &ListBytes) -> Result<Frontier, PlanFault>
+    ensures ids { Plans result (first_row (list_rows values.now) (rising_ids (members_of values.now))) }
+{
+    let strings = members(alloc, values)?;
+    set_of(alloc, &strings)
 }

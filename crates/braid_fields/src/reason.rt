@@ -1,3 +1,6 @@
+ghost use Rattle.std.specs.Prelude.{◌≡◌};
+ghost use Rattle.braid_fields.specs.Reasons.{reason_name};
+
 /// What is wrong with a line, a head or a content of an update stream, in the order in which it is looked for.
 #[derive(Clone, Copy, Debug, PartialEq, Eq)]
 pub enum Reason {
@@ -45,4 +48,36 @@ pub enum Reason {
     Overlap,
     /// A content is not UTF-8.
     NotText,
+}
+
+impl Reason {
+    /// Its name, as it is printed and sent. It takes no memory.
+    pub fn name(self) -> &'static str
+        ensures value { result.now ≡ reason_name self }
+    {
+        match self {
+            Reason::BadLine => "BadLine",
+            Reason::BadStatus => "BadStatus",
+            Reason::HeadTooLong => "HeadTooLong",
+            Reason::Encoded => "Encoded",
+            Reason::RepeatedField => "RepeatedField",
+            Reason::OtherMergeType => "OtherMergeType",
+            Reason::BadList => "BadList",
+            Reason::NoVersion => "NoVersion",
+            Reason::ManyVersions => "ManyVersions",
+            Reason::BadId => "BadId",
+            Reason::TooManyParents => "TooManyParents",
+            Reason::BadCount => "BadCount",
+            Reason::TooManyPatches => "TooManyPatches",
+            Reason::NoLength => "NoLength",
+            Reason::BadLength => "BadLength",
+            Reason::TooLong => "TooLong",
+            Reason::NoRange => "NoRange",
+            Reason::OtherUnit => "OtherUnit",
+            Reason::BadRange => "BadRange",
+            Reason::Backwards => "Backwards",
+            Reason::Overlap => "Overlap",
+            Reason::NotText => "NotText",
+        }
+    }
 }

@@ -129,3 +129,26 @@ fn a_plan_says_what_follows_the_head(rt: HostRuntime) -> Result<(), Fail> {
     );
     Ok(())
 }
+
+/// What the forms of servers and paths say of the longest bytes, of one more, of each sign and of none.
+fn are_place_forms(slashes: &[u8], blank: &[u8]) -> [bool; 10] {
+    [
+        is_path(&slashes[..1_024]),
+        !is_path(slashes),
+        is_path(b"/-._~!$&'()*+,;=:@%/?aZ09"),
+        !is_path(b"/#"),
+        !is_path(b""),
+        is_server(&slashes[..255]),
+        !is_server(&slashes[..256]),
+        !is_server(blank),
+        !is_server(b""),
+        !is_server(b"\x7f"),
+    ]
+}
+
+#[test]
+fn servers_and_paths_have_their_limits(rt: HostRuntime) -> Result<(), Fail> {
+    let slashes = vec![in rt.alloc(); b'/'; 1_025]?;
+    assert_eq!(rt; are_place_forms(&slashes, b" /"), [true; 10]);
+    Ok(())
+}

@@ -1,7 +1,7 @@
 -- A head that is read line by line.
 use Rattle.std.proofs.Common.{◌≡◌, ◌≢◌, ℕ, ◌+◌, ◌<◌, ◌≤◌, min, decimal, List, ◌∷◌, ◌++◌, take, refl, sym, ap, ◌∙◌, subst, arith}
 use Rattle.braid_state.specs.declared.line.Line.TheVariants.{Server, Path, Confirmed, Unsent, Empty}
-use Rattle.braid_state.specs.Places.{IsServer, IsPath}
+use Rattle.braid_fields.specs.Places.{IsServer, IsPath}
 use Rattle.braid_state.specs.Heads.{Head, head_lines, name_of, HasLines, IsCount, count_of}
 use Rattle.braid_state.specs.StateFaults.{LacksLine}
 use Rattle.braid_state.proofs.Counts.{count_is}

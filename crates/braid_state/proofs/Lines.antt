@@ -12,7 +12,7 @@ use Rattle.braid_ids.proofs.Splits.{lacks_at, one_split}
 use Rattle.braid_shelf.specs.ByteClasses.{Are}
 use Rattle.braid_state.specs.declared.line.Line.{Line}
 use Rattle.braid_state.specs.declared.line.Line.TheVariants.{Title, Agent, Server, Path, Confirmed, Unsent, Empty}
-use Rattle.braid_state.specs.Places.{IsServer, IsPath}
+use Rattle.braid_fields.specs.Places.{IsServer, IsPath}
 use Rattle.braid_state.specs.Heads.{Head, head_lines, name_of, value_of, line_of, IsCount, HasForm, HasLines}
 use Rattle.braid_state.specs.StateFaults.{LacksLine}
 

@@ -5,7 +5,7 @@ use Rattle.std.specs.Str.Parse.{AllDigits, digits_value}
 use Rattle.braid_ids.specs.Agents.{IsAgent}
 use Rattle.braid_state.specs.declared.line.Line.{Line}
 use Rattle.braid_state.specs.declared.line.Line.TheVariants.{Title, Agent, Server, Path, Confirmed, Unsent, Empty}
-use Rattle.braid_state.specs.Places.{IsServer, IsPath}
+use Rattle.braid_fields.specs.Places.{IsServer, IsPath}
 
 -- what stands in the lines of a head: an agent, a server, a path, and how many updates are confirmed and how many unsent
 pub record Head : Type 0 where

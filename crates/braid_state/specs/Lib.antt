@@ -1,4 +1,3 @@
-pub mod Places
 pub mod Heads
 pub mod States
 pub mod StateFaults

@@ -6,7 +6,7 @@ use Rattle.braid_change.specs.Updates.{UpdateView, IsUpdate}
 use Rattle.braid_change.specs.Spellings.{canonical_all}
 use Rattle.braid_grammar.specs.Streams.{IsGap, AfterGap, SpellsUpdate}
 use Rattle.braid_state.specs.declared.state.State.{State}
-use Rattle.braid_state.specs.Places.{IsServer, IsPath}
+use Rattle.braid_fields.specs.Places.{IsServer, IsPath}
 use Rattle.braid_state.specs.Heads.{Head, head_lines, line_of, most_updates, HasLines}
 
 -- the head of a state's text: its counts in decimal

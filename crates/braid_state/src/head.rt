@@ -2,7 +2,7 @@
 
 ghost use Rattle.std.specs.Prelude.{◌≡◌, ◌≢◌, ◌+◌, ◌≤◌, ◌∷◌, ◌++◌, List, ℕ, take, decimal, min, MatchOption, IfOk, IfErr};
 ghost use Rattle.braid_ids.specs.Agents.{IsAgent};
-ghost use Rattle.braid_state.specs.Places.{IsServer, IsPath};
+ghost use Rattle.braid_fields.specs.Places.{IsServer, IsPath};
 ghost use Rattle.braid_state.specs.Heads.{Head, head_lines, name_of, HasLines, IsCount, count_of, most_updates};
 ghost use Rattle.braid_state.specs.StateFaults.{LacksLine};
 ghost use Rattle.braid_state.specs.Stops.{IfBad, head_read};
@@ -10,8 +10,8 @@ ghost use Rattle.braid_state.specs.declared.line.Line.TheVariants as lines;
 
 use crate::count::{MOST_UPDATES, read_count};
 use crate::line::{Line, pass_line, read_line};
-use crate::place::{is_path, is_server};
 use crate::stop::Stop;
+use braid_fields::{is_path, is_server};
 use braid_ids::{Agent, AgentFault, Bytes, Memory};
 use std::alloc::Global;
 

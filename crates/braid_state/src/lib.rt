@@ -13,14 +13,12 @@ mod count;
 mod head;
 pub mod laws;
 mod line;
-mod place;
 mod reading;
 mod state;
 mod stop;
 mod tail;
 mod writing;
 
-pub use place::{is_path, is_server};
 pub use reading::read_state;
 pub use state::{State, StateFault};
 pub use writing::write_state;

@@ -117,14 +117,3 @@ fn faults_have_their_places(rt: HostRuntime) -> Result<(), Fail> {
     }
     Ok(())
 }
-
-#[test]
-fn servers_and_paths_have_their_limits(rt: HostRuntime) -> Result<(), Fail> {
-    let mut bytes = vec![in rt.alloc(); b'/'; 1_025]?;
-    assert!(rt; is_path(&bytes[..1_024]) && !is_path(&bytes));
-    assert!(rt; is_server(&bytes[..255]) && !is_server(&bytes[..256]));
-    assert!(rt; is_path(b"/-._~!$&'()*+,;=:@%/?aZ09") && !is_path(b"/#") && !is_path(b""));
-    bytes[0] = b' ';
-    assert!(rt; !is_server(&bytes[..255]) && !is_server(b"") && !is_server(b"\x7f"));
-    Ok(())
-}

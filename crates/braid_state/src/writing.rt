@@ -5,7 +5,7 @@ ghost use Rattle.std.specs.List.{AllByRecursion};
 ghost use Rattle.braid_ids.specs.Agents.{IsAgent};
 ghost use Rattle.braid_change.specs.Updates.{IsUpdate};
 ghost use Rattle.braid_change.specs.Spellings.{canonical_all};
-ghost use Rattle.braid_state.specs.Places.{IsServer, IsPath};
+ghost use Rattle.braid_fields.specs.Places.{IsServer, IsPath};
 ghost use Rattle.braid_state.specs.Heads.{head_lines, name_of, line_of, most_updates};
 ghost use Rattle.braid_state.specs.States.{head_of, SpellsState, state_text};
 

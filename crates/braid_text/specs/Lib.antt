@@ -9,3 +9,4 @@ pub mod Puts
 pub mod Standing
 pub mod Judging
 pub mod Digested
+pub mod Rooms

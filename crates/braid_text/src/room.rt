@@ -1,3 +1,6 @@
+ghost use Rattle.std.specs.Prelude.{◌≡◌};
+ghost use Rattle.braid_text.specs.Rooms.{which_name};
+
 /// What there is room for in a resource beside its updates, or what an update needs.
 #[derive(Clone, Copy, Debug, PartialEq, Eq)]
 pub struct Room {
@@ -20,4 +23,19 @@ pub enum Which {
     Elements,
     Deletions,
     Width,
+}
+
+impl Which {
+    /// Its name, as it is printed and sent. It takes no memory.
+    pub fn name(self) -> &'static str
+        ensures value { result.now ≡ which_name self }
+    {
+        match self {
+            Which::Resources => "resources",
+            Which::Versions => "versions",
+            Which::Elements => "elements",
+            Which::Deletions => "deletions",
+            Which::Width => "width",
+        }
+    }
 }

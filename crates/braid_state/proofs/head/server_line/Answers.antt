@@ -2,7 +2,7 @@ use Rattle.std.proofs.Common.{◌≡◌, ℕ, List, ◌∷◌, ◌++◌, sym, su
 use Rattle.std.proofs.lemmas.Bool.{false≢true}
 use Rattle.braid_ids.specs.Lists.{Lacks}
 use Rattle.braid_state.specs.declared.line.Line.TheVariants as lines
-use Rattle.braid_state.specs.Places.{IsServer}
+use Rattle.braid_fields.specs.Places.{IsServer}
 use Rattle.braid_state.specs.Heads.{name_of}
 use Rattle.braid_state.proofs.Lines.{server_lacks, value_is}
 use Rattle.braid_state.proofs.head.server_line.Goals as goal

@@ -1,7 +1,7 @@
-//! Servers and paths.
+//! The forms of a server's address and of a path.
 
 ghost use Rattle.std.specs.Prelude.{◌≡◌, ◌↔◌, IsTrue};
-ghost use Rattle.braid_state.specs.Places.{is_server_byte, is_path_byte, IsServer, IsPath};
+ghost use Rattle.braid_fields.specs.Places.{is_server_byte, is_path_byte, IsServer, IsPath};
 
 const LONGEST_SERVER: usize = 255;
 
