@@ -29,7 +29,8 @@ impl Digester {
     ///
     /// Errors: `Memory` where there was none for its spelling; nothing is added then.
     pub fn add(&mut self, alloc: Global, update: &Update) -> Result<(), Memory>
-        ensures ok { OnOk result ((us : List UpdateView) → HasAdded self.old us → HasAdded self.new (us ++ update.now ∷ [])) }
+        ensures ok { OnOk result ((us : List UpdateView) → HasAdded self.old us
+            → HasAdded self.new (us ++ update.now ∷ [])) }
         ensures err { OnErr result (self.new ≡ self.old) }
     {
         let spelling = canon(alloc, update)?;

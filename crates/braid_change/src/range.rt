@@ -71,7 +71,8 @@ fn read_byte(len: usize, rest: &[u8], byte: u8) -> Result<&[u8], RangeFault>
 /// The number at the front of the end of a value of `len` bytes, and what follows its digits.
 fn read_number(len: usize, rest: &[u8]) -> Result<(u32, &[u8]), RangeFault>
     requires within { length rest.now ≤ len }
-    ensures ok { IfOk result (λ read. (digits : List ℕ) × IsNumber digits read.0 × (starts is_ascii_digit read.1.now ≡ false) × (rest.now ≡ digits ++ read.1.now)) }
+    ensures ok { IfOk result (λ read. (digits : List ℕ) × IsNumber digits read.0
+        × (starts is_ascii_digit read.1.now ≡ false) × (rest.now ≡ digits ++ read.1.now)) }
     ensures fault { IfErr result (λ fault. IsNumberFault len rest.now fault) }
 {
     let (digits, after) = rest.split_at(count_digits(rest));

@@ -55,7 +55,8 @@ impl Update {
     /// Errors: the first of `BuildFault` that holds of the parts, which are then dropped.
     pub fn build(id: Id, parents: Frontier, change: Change) -> Result<Update, BuildFault>
         requires counted { length (patches_of change) < 2 ^ 32 }
-        ensures ok { IfOk result (λ update. (update ≡ record { id = id; parents = parents; change = change }) × IsBuilt parents change) }
+        ensures ok { IfOk result (λ update. (update ≡ record { id = id; parents = parents; change = change })
+            × IsBuilt parents change) }
         ensures valid { IfOk result (λ update. IsUpdate update) }
         ensures fault { IfErr result (λ fault. IsBuildFault parents change fault) }
     {

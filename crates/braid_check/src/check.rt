@@ -26,9 +26,12 @@ pub fn check_run<S: Source, O: Sink>(
     source: &mut S,
     out: &mut O,
 ) -> Status
-    ensures runs { Runs words.now result (S.intake source.old) (S.intake source.new) (O.outflow out.old) (O.outflow out.new) }
-    ensures completes { Succeeds words.now result (S.intake source.old) (S.intake source.new) (O.outflow out.old) (O.outflow out.new) }
-    ensures kept { (S.beside_reads source.new ≡ S.beside_reads source.old) × (O.beside_writes out.new ≡ O.beside_writes out.old) }
+    ensures runs { Runs words.now result (S.intake source.old) (S.intake source.new) (O.outflow out.old)
+        (O.outflow out.new) }
+    ensures completes { Succeeds words.now result (S.intake source.old) (S.intake source.new) (O.outflow out.old)
+        (O.outflow out.new) }
+    ensures kept { (S.beside_reads source.new ≡ S.beside_reads source.old)
+        × (O.beside_writes out.new ≡ O.beside_writes out.old) }
 {
     match words {
         [word] if word.get() == b"check".as_slice() => check_stream(alloc, source, out),
@@ -52,8 +55,10 @@ pub fn refuse_words<O: Sink>(out: &mut O) -> Status
 
 /// Reads a stream from the source, and writes its report.
 fn check_stream<S: Source, O: Sink>(alloc: Global, source: &mut S, out: &mut O) -> Status
-    ensures runs { CheckRuns result (S.intake source.old) (S.intake source.new) (O.outflow out.old) (O.outflow out.new) }
-    ensures kept { (S.beside_reads source.new ≡ S.beside_reads source.old) × (O.beside_writes out.new ≡ O.beside_writes out.old) }
+    ensures runs { CheckRuns result (S.intake source.old) (S.intake source.new) (O.outflow out.old)
+        (O.outflow out.new) }
+    ensures kept { (S.beside_reads source.new ≡ S.beside_reads source.old)
+        × (O.beside_writes out.new ≡ O.beside_writes out.old) }
 {
     let Ok((resource, stop)) = read_history(alloc, source) else {
         return Status::Memory;

@@ -14,27 +14,33 @@ ghost use Rattle.braid_check.specs.Kept.{IsWithin};
 pub fn each_once()
     ensures none { history_of [] ≡ [] }
     ensures exact { (us : List UpdateView) (u : UpdateView) → Contains (history_of us) u ↔ Contains us u }
-    ensures joins { (us : List UpdateView) (u : UpdateView) → ¬ (Contains us u) → history_of (us ++ u ∷ []) ≡ history_of us ++ u ∷ [] }
-    ensures passes { (us : List UpdateView) (u : UpdateView) → Contains us u → history_of (us ++ u ∷ []) ≡ history_of us }
+    ensures joins { (us : List UpdateView) (u : UpdateView) → ¬ (Contains us u)
+        → history_of (us ++ u ∷ []) ≡ history_of us ++ u ∷ [] }
+    ensures passes { (us : List UpdateView) (u : UpdateView) → Contains us u
+        → history_of (us ++ u ∷ []) ≡ history_of us }
 {}
 
 /// No updates are accepted ones; and with one more they are accepted exactly where those before it are, and the answer to
 /// it is that it is new or known.
 pub fn accepted_one_by_one()
     ensures none { AreAccepted [] }
-    ensures more { (us : List UpdateView) (u : UpdateView) → AreAccepted (us ++ u ∷ []) ↔ (AreAccepted us × IsAccepted (replica_answer (history_of us) u)) }
+    ensures more { (us : List UpdateView) (u : UpdateView)
+        → AreAccepted (us ++ u ∷ []) ↔ (AreAccepted us × IsAccepted (replica_answer (history_of us) u)) }
 {}
 
 /// The accepted updates of a stream leave a legal history within the limits of a replica.
 pub fn accepted_is_legal()
-    ensures legal { (us : List UpdateView) (bytes : List ℕ) → IsStream us bytes → AreAccepted us → IsLegal (history_of us) }
-    ensures within { (us : List UpdateView) (bytes : List ℕ) → IsStream us bytes → AreAccepted us → IsWithin (history_of us) }
+    ensures legal { (us : List UpdateView) (bytes : List ℕ) → IsStream us bytes → AreAccepted us
+        → IsLegal (history_of us) }
+    ensures within { (us : List UpdateView) (bytes : List ℕ) → IsStream us bytes → AreAccepted us
+        → IsWithin (history_of us) }
 {}
 
 /// Two streams of the same updates have the same text, in whatever order and however often their updates come, where
 /// all of them are accepted.
 pub fn order_does_not_matter()
-    ensures law { (us vs : List UpdateView) (bytes other : List ℕ) → IsStream us bytes → IsStream vs other → AreAccepted us → AreAccepted vs
+    ensures law { (us vs : List UpdateView) (bytes other : List ℕ) → IsStream us bytes → IsStream vs other
+        → AreAccepted us → AreAccepted vs
         → SameGraph us vs → history_text (history_of us) ≡ history_text (history_of vs) }
 {}
 
@@ -58,5 +64,6 @@ pub fn found_decides()
 pub fn found_or_not()
     ensures either { (bytes : List ℕ) → ((text : List ℕ) × IsFound bytes text) ⊎ ShowNothing bytes }
     ensures apart { (bytes text : List ℕ) → IsFound bytes text → ¬ ShowNothing bytes }
-    ensures ends { (bytes : List ℕ) → ShowNothing bytes → (status : Ended) × (text : List ℕ) × IsEndText bytes status text }
+    ensures ends { (bytes : List ℕ) → ShowNothing bytes
+        → (status : Ended) × (text : List ℕ) × IsEndText bytes status text }
 {}

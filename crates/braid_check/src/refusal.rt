@@ -37,7 +37,8 @@ fn id_report(alloc: Global, words: &[u8], id: &Id) -> Result<Bytes, Memory>
 
 /// The line for a patch that ends past the text at the update's parents.
 fn range_report(alloc: Global, patch: u32, len: u32) -> Result<Bytes, Memory>
-    ensures ok { IfOk result (λ text. text ≡ codes "fault: OutOfRange patch " ++ decimal patch ++ codes " len " ++ decimal len ++ codes "\n") }
+    ensures ok { IfOk result (λ text. text ≡ codes "fault: OutOfRange patch " ++ decimal patch ++ codes " len "
+        ++ decimal len ++ codes "\n") }
 {
     let mut line = Bytes::of(alloc, b"fault: OutOfRange patch ")?;
     push_number(&mut line, patch as u64)?;
@@ -49,7 +50,8 @@ fn range_report(alloc: Global, patch: u32, len: u32) -> Result<Bytes, Memory>
 
 /// The line for a limit that an update would pass.
 fn full_report(alloc: Global, which: Which) -> Result<Bytes, Memory>
-    ensures ok { IfOk result (λ text. text ≡ codes "fault: Full " ++ which_name which ++ codes " " ++ decimal (limit_of which) ++ codes "\n") }
+    ensures ok { IfOk result (λ text. text ≡ codes "fault: Full " ++ which_name which ++ codes " "
+        ++ decimal (limit_of which) ++ codes "\n") }
 {
     let mut line = Bytes::of(alloc, b"fault: Full ")?;
     line.push(which.name().as_bytes())?;

@@ -13,9 +13,12 @@ use std::alloc::Global;
 /// The command `check` takes the updates of a stream from `source` into one resource and writes to `out` what it holds then, or
 /// what is wrong (`braid_check::check_run`). Other words are written as `fault: Usage`, and the source is left alone.
 pub fn run<S: Source, O: Sink>(alloc: Global, words: &[Word], source: &mut S, out: &mut O) -> Status
-    ensures runs { Runs words.now result (S.intake source.old) (S.intake source.new) (O.outflow out.old) (O.outflow out.new) }
-    ensures completes { Succeeds words.now result (S.intake source.old) (S.intake source.new) (O.outflow out.old) (O.outflow out.new) }
-    ensures kept { (S.beside_reads source.new ≡ S.beside_reads source.old) × (O.beside_writes out.new ≡ O.beside_writes out.old) }
+    ensures runs { Runs words.now result (S.intake source.old) (S.intake source.new) (O.outflow out.old)
+        (O.outflow out.new) }
+    ensures completes { Succeeds words.now result (S.intake source.old) (S.intake source.new) (O.outflow out.old)
+        (O.outflow out.new) }
+    ensures kept { (S.beside_reads source.new ≡ S.beside_reads source.old)
+        × (O.beside_writes out.new ≡ O.beside_writes out.old) }
 {
     match words.first() {
         Some(word) if word.get() == b"check".as_slice() => check_run(alloc, words, source, out),
@@ -34,8 +37,12 @@ pub fn exit_code<S: Source, O: Sink>(
     source: &mut S,
     out: &mut O,
 ) -> u8
-    ensures exits { MatchResult words (λ words. ExitsRun words.items result (S.intake source.old) (S.intake source.new) (O.outflow out.old) (O.outflow out.new)) (λ fault. ExitsUnread fault result (S.intake source.old) (S.intake source.new) (O.outflow out.old) (O.outflow out.new)) }
-    ensures kept { (S.beside_reads source.new ≡ S.beside_reads source.old) × (O.beside_writes out.new ≡ O.beside_writes out.old) }
+    ensures exits { MatchResult words (λ words. ExitsRun words.items result (S.intake source.old)
+        (S.intake source.new) (O.outflow out.old) (O.outflow out.new))
+        (λ fault. ExitsUnread fault result (S.intake source.old) (S.intake source.new) (O.outflow out.old)
+        (O.outflow out.new)) }
+    ensures kept { (S.beside_reads source.new ≡ S.beside_reads source.old)
+        × (O.beside_writes out.new ≡ O.beside_writes out.old) }
 {
     match words {
         Ok(words) => run(alloc, &words, source, out).code(),

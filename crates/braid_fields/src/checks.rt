@@ -72,7 +72,8 @@ pub fn is_other_merge_type(values: &ListBytes) -> bool
 
 /// Whether a field that may stand once has two lines.
 fn has_repeats(given: Option<u64>, parts: &Parts) -> bool
-    ensures { result ≡ (is_repeated parts.now.patches || is_repeated (length_lines given parts.now.length) || is_repeated parts.now.range || is_repeated parts.now.merge_type) }
+    ensures { result ≡ (is_repeated parts.now.patches || is_repeated (length_lines given parts.now.length)
+        || is_repeated parts.now.range || is_repeated parts.now.merge_type) }
 {
     is_repeated(&parts.patches)
         || is_length_repeated(given, &parts.length)

@@ -40,7 +40,8 @@ fn patch_count(alloc: Global, value: &[u8]) -> Result<u32, PlanFault>
 
 /// The content of a head without `Patches`.
 fn alone(given: Option<u64>, parts: &Parts) -> Result<Asks, Reason>
-    ensures asks { result ≡ first_row (length_rows given 0 parts.now.length ++ range_rows parts.now.range) (alone_asks given parts.now) }
+    ensures asks { result ≡ first_row (length_rows given 0 parts.now.length ++ range_rows parts.now.range)
+        (alone_asks given parts.now) }
 {
     let len = content_len(given, 0, &parts.length)?;
     match range_of(&parts.range)? {
@@ -57,7 +58,8 @@ fn alone(given: Option<u64>, parts: &Parts) -> Result<Asks, Reason>
 
 /// The content that a head asks for, whose length is given or told.
 pub(crate) fn content(alloc: Global, given: Option<u64>, parts: &Parts) -> Result<Asks, PlanFault>
-    ensures asks { Plans result (first_row (count_rows parts.now ++ content_rows given parts.now) (asks_of given parts.now)) }
+    ensures asks { Plans result (first_row (count_rows parts.now ++ content_rows given parts.now)
+        (asks_of given parts.now)) }
 {
     let Some(value) = parts.patches.get().first() else {
         return Ok(alone(given, parts)?);

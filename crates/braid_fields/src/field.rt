@@ -123,7 +123,8 @@ fn without_cr(line: &[u8]) -> &[u8]
 /// `line` is a line with its LF. The value comes without the spaces and tabs at both ends. `None` where the line is no
 /// field line: no colon stands behind one or more bytes of a name, or the value has a control byte.
 pub fn read_field(line: &[u8]) -> Option<(&[u8], &[u8])>
-    ensures value { option_map (λ found. record { name = found.0.now; value = found.1.now }) result ≡ field_of line.now }
+    ensures value { option_map (λ found. record { name = found.0.now; value = found.1.now }) result
+        ≡ field_of line.now }
 {
     let Some((last, front)) = line.split_last() else {
         return None;

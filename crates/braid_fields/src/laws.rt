@@ -49,10 +49,13 @@ pub fn lines_apart()
 
 /// What is computed of a value is what the value is, and nothing is computed of a value that is nothing of the kind.
 pub fn values()
-    ensures strings { (value : List ℕ) (strings : List (List ℕ)) → strings_in_value value ≡ Some strings ↔ SpellsStrings strings value }
+    ensures strings { (value : List ℕ) (strings : List (List ℕ))
+        → strings_in_value value ≡ Some strings ↔ SpellsStrings strings value }
     ensures count { (value : List ℕ) (n : ℕ) → count_in_value value ≡ Some n ↔ SpellsList (count_member n ∷ []) value }
-    ensures length { (value : List ℕ) (n : ℕ) → length_in_value value ≡ Some n ↔ (AreDigits value × (n ≡ digits_value 10 value)) }
-    ensures range { (value : List ℕ) (range : TextRange) → range_in_value value ≡ Some range ↔ IsRange value range.start range.end }
+    ensures length { (value : List ℕ) (n : ℕ) → length_in_value value ≡ Some n
+        ↔ (AreDigits value × (n ≡ digits_value 10 value)) }
+    ensures range { (value : List ℕ) (range : TextRange)
+        → range_in_value value ≡ Some range ↔ IsRange value range.start range.end }
     ensures unit { (value : List ℕ) → has_other_unit value ≡ true ↔ IsRangeFault value OtherUnit }
 {}
 
@@ -60,24 +63,30 @@ pub fn values()
 pub fn plans_are_within()
     ensures head { (fs : List Field) (plan : Plan) → judge_head fs ≡ Ok plan → IsPlanWithin plan }
     ensures put { (len : ℕ) (p : Parts) (plan : Plan) → judge_put len p ≡ Ok plan → IsPlanWithin plan }
-    ensures patch { (used before : ℕ) (fs : List Field) (p : PatchPlan) → judge_patch used before fs ≡ Ok p → IsPatchWithin used before p }
+    ensures patch { (used before : ℕ) (fs : List Field) (p : PatchPlan) → judge_patch used before fs ≡ Ok p
+        → IsPatchWithin used before p }
 {}
 
 /// The lines of the heads of a canonical spelling are field lines, of these names and values.
 pub fn canonical_lines()
-    ensures version { (id : List ℕ) → IsIdentifier id → field_of (version_line id) ≡ Some (record { name = codes "Version"; value = spelled_id id }) }
+    ensures version { (id : List ℕ) → IsIdentifier id → field_of (version_line id)
+        ≡ Some (record { name = codes "Version"; value = spelled_id id }) }
     ensures parents { (parents : List (List ℕ)) → AllByRecursion IsIdentifier parents
         → field_of (parents_line parents) ≡ Some (record { name = codes "Parents"; value = spelled_ids parents }) }
-    ensures length { (n : ℕ) → n < 2 ^ 64 → field_of (length_line n) ≡ Some (record { name = codes "Content-Length"; value = decimal n }) }
-    ensures patches { (n : ℕ) → n < 2 ^ 64 → field_of (patches_line n) ≡ Some (record { name = codes "Patches"; value = decimal n }) }
+    ensures length { (n : ℕ) → n < 2 ^ 64 → field_of (length_line n)
+        ≡ Some (record { name = codes "Content-Length"; value = decimal n }) }
+    ensures patches { (n : ℕ) → n < 2 ^ 64 → field_of (patches_line n)
+        ≡ Some (record { name = codes "Patches"; value = decimal n }) }
     ensures range { (start end : ℕ) → start < 2 ^ 64 → end < 2 ^ 64
         → field_of (range_line start end) ≡ Some (record { name = codes "Content-Range"; value = range_text start end }) }
 {}
 
 /// The heads of a canonical spelling have the plans of its update and of its patches.
 pub fn canonical_heads()
-    ensures head { (u : UpdateView) → IsIdentifier u.id → AllByRecursion IsIdentifier u.parents → IsRising u.parents → IsBuilt u.parents u.change
+    ensures head { (u : UpdateView) → IsIdentifier u.id → AllByRecursion IsIdentifier u.parents → IsRising u.parents
+        → IsBuilt u.parents u.change
         → judge_head (head_fields u) ≡ Ok (update_plan u) }
-    ensures patch { (used before : ℕ) (p : Patch) → before ≤ p.start → p.start ≤ p.end → p.end < 2 ^ 32 → used + length (encode_utf8_all p.text) ≤ 1_048_576
+    ensures patch { (used before : ℕ) (p : Patch) → before ≤ p.start → p.start ≤ p.end → p.end < 2 ^ 32
+        → used + length (encode_utf8_all p.text) ≤ 1_048_576
         → judge_patch used before (patch_fields p) ≡ Ok (plan_of_patch p) }
 {}

@@ -52,7 +52,8 @@ fn told_range(parts: &Parts) -> Result<TextRange, Reason>
 
 /// The plan of the known fields, by the rows in their order.
 fn plan_of(fields: &HeadFields, used: u32, before: u32) -> Result<PatchPlan, Reason>
-    ensures plan { result ≡ first_row (patch_rows used before fields.now) (patch_plan (range_of fields.now.parts.range) (length_of None fields.now.parts.length)) }
+    ensures plan { result ≡ first_row (patch_rows used before fields.now)
+        (patch_plan (range_of fields.now.parts.range) (length_of None fields.now.parts.length)) }
 {
     check_fields(fields)?;
     let len = content_len(None, used, &fields.parts.length)?;

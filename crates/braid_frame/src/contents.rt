@@ -25,7 +25,8 @@ pub fn begin_update(
     requires room { state.old.at < 2 ^ 64 }
     requires stands { CanGo (behind_head plan state.old.at) state.old.at }
     ensures framing { IsFraming state.new }
-    ensures finishes { ForGo (behind_head plan state.old.at) state.old.at (λ us b. Finishes us b taken result state.new) }
+    ensures finishes { ForGo (behind_head plan state.old.at) state.old.at
+        (λ us b. Finishes us b taken result state.new) }
 {
     let asks = plan.asks;
     let begun = Begun {
@@ -60,7 +61,8 @@ fn begin_patches(
     requires clean { IsClean state.old }
     requires stands { CanGo (behind_count begun count state.old.at) state.old.at }
     ensures framing { IsFraming state.new }
-    ensures finishes { ForGo (behind_count begun count state.old.at) state.old.at (λ us b. Finishes us b taken result state.new) }
+    ensures finishes { ForGo (behind_count begun count state.old.at) state.old.at
+        (λ us b. Finishes us b taken result state.new) }
 {
     if count == 0 {
         let change = Change::Patches(ListPatch::of(Vec::new(alloc)));
@@ -118,7 +120,8 @@ pub fn step_content(
     requires room { state.old.at + length state.old.kept.items + length piece.now < 2 ^ 64 }
     requires stands { CanStand state.old.doing state.old.at state.old.kept.items }
     ensures framing { IsFraming state.new }
-    ensures steps { ForStand state.old.doing state.old.at state.old.kept.items (λ us b. Steps us b piece.now result state.new) }
+    ensures steps { ForStand state.old.doing state.old.at state.old.kept.items
+        (λ us b. Steps us b piece.now result state.new) }
 {
     let len = len as usize;
     let count = piece.len().min(len - state.kept.len());
@@ -140,7 +143,8 @@ fn end_content(alloc: Global, state: &mut State, taken: usize) -> Result<Fed, Fe
     requires room { state.old.at + length state.old.kept.items < 2 ^ 64 }
     requires stands { CanStand state.old.doing state.old.at state.old.kept.items }
     ensures framing { IsFraming state.new }
-    ensures finishes { ForStand state.old.doing state.old.at state.old.kept.items (λ us b. Finishes us b taken result state.new) }
+    ensures finishes { ForStand state.old.doing state.old.at state.old.kept.items
+        (λ us b. Finishes us b taken result state.new) }
 {
     match Text::read(alloc, &state.kept) {
         Ok(text) => end_text(state, text, taken),
@@ -161,7 +165,8 @@ fn end_text(state: &mut State, text: Text, taken: usize) -> Result<Fed, FeedFaul
     requires room { state.old.at + length state.old.kept.items < 2 ^ 64 }
     requires stands { CanStand state.old.doing state.old.at state.old.kept.items }
     ensures framing { IsFraming state.new }
-    ensures finishes { ForStand state.old.doing state.old.at state.old.kept.items (λ us b. Finishes us b taken result state.new) }
+    ensures finishes { ForStand state.old.doing state.old.at state.old.kept.items
+        (λ us b. Finishes us b taken result state.new) }
 {
     pass_over(state);
     match mem::replace(&mut state.doing, Doing::Lines) {
@@ -191,7 +196,8 @@ fn end_patch(
     requires used { patching.used + len < 2 ^ 32 }
     requires stands { CanGo (behind_patch patching patch state.old.at) state.old.at }
     ensures framing { IsFraming state.new }
-    ensures finishes { ForGo (behind_patch patching patch state.old.at) state.old.at (λ us b. Finishes us b taken result state.new) }
+    ensures finishes { ForGo (behind_patch patching patch state.old.at) state.old.at
+        (λ us b. Finishes us b taken result state.new) }
 {
     let before = patch.end;
     let mut done = patching.done;
@@ -221,7 +227,8 @@ fn complete(state: &mut State, begun: Begun, change: Change, taken: usize) -> Fe
     requires clean { IsClean state.old }
     requires stands { CanEnd (record { id = begun.id; parents = begun.parents; change = change }) state.old.at }
     ensures framing { IsFraming state.new }
-    ensures finishes { ForEnd (record { id = begun.id; parents = begun.parents; change = change }) state.old.at (λ us b. Finishes us b taken (Ok result) state.new) }
+    ensures finishes { ForEnd (record { id = begun.id; parents = begun.parents; change = change }) state.old.at
+        (λ us b. Finishes us b taken (Ok result) state.new) }
 {
     state.doing = Doing::Lines;
     state.awaits = Awaits::UpdateHead;

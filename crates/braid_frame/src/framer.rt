@@ -60,9 +60,12 @@ impl Framer {
     /// Errors: `Frame` with the first fault of all bytes fed, as soon as they have one; the framer answers that
     /// fault for good, and takes no memory for it. `Memory` where there was none; it answers that for good.
     pub fn feed(&mut self, piece: &[u8]) -> Result<Fed, FeedFault>
-        requires fed { IsOpen self.old → (us : List UpdateView) × (b : List ℕ) × StandsFor us self.old b × (length b + length piece.now < 2 ^ 64) }
-        ensures feeds { (us : List UpdateView) (b : List ℕ) → StandsFor us self.old b → Feeds us b piece.now result self.new }
-        ensures failed { (fault : FrameFault) → HasFailed self.old fault → (result ≡ Err (faults.Frame fault)) × (self.new ≡ self.old) }
+        requires fed { IsOpen self.old → (us : List UpdateView) × (b : List ℕ) × StandsFor us self.old b
+            × (length b + length piece.now < 2 ^ 64) }
+        ensures feeds { (us : List UpdateView) (b : List ℕ) → StandsFor us self.old b
+            → Feeds us b piece.now result self.new }
+        ensures failed { (fault : FrameFault) → HasFailed self.old fault
+            → (result ≡ Err (faults.Frame fault)) × (self.new ≡ self.old) }
         ensures memory { HadNoMemory self.old → (result ≡ Err faults.Memory) × (self.new ≡ self.old) }
     {
         match &self.state.doing {
@@ -88,9 +91,11 @@ impl Framer {
 fn feed(alloc: Global, state: &mut State, piece: &[u8]) -> Result<Fed, FeedFault>
     requires framing { IsFraming state.old }
     requires open_still { IsOpen state.old }
-    requires fed { (us : List UpdateView) × (b : List ℕ) × StandsFor us state.old b × (length b + length piece.now < 2 ^ 64) }
+    requires fed { (us : List UpdateView) × (b : List ℕ) × StandsFor us state.old b
+        × (length b + length piece.now < 2 ^ 64) }
     ensures framing { IsFraming state.new }
-    ensures feeds { (us : List UpdateView) (b : List ℕ) → StandsFor us state.old b → Feeds us b piece.now result state.new }
+    ensures feeds { (us : List UpdateView) (b : List ℕ) → StandsFor us state.old b
+        → Feeds us b piece.now result state.new }
 {
     let mut taken = 0;
     while taken < piece.len() {

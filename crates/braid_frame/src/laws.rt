@@ -14,7 +14,10 @@ ghost use Rattle.braid_frame.specs.Framing.{StandsFor, IsOpen, HasFailed};
 /// none they have none.
 pub fn meaning()
     ensures completes { (us : List UpdateView) (framer : State) (b : List ℕ) → StandsFor us framer b → Completes us b }
-    ensures faultless { (us : List UpdateView) (framer : State) (b : List ℕ) → StandsFor us framer b → IsOpen framer → IsFaultless b }
-    ensures fault { (us : List UpdateView) (framer : State) (b : List ℕ) (at : ℕ) (r : Reason) → StandsFor us framer b → IsFault b at r → HasFailed framer (record { at = at; reason = r }) }
-    ensures failed { (us : List UpdateView) (framer : State) (b : List ℕ) (f : FrameFault) → StandsFor us framer b → HasFailed framer f → HasFault us b f }
+    ensures faultless { (us : List UpdateView) (framer : State) (b : List ℕ) → StandsFor us framer b → IsOpen framer
+        → IsFaultless b }
+    ensures fault { (us : List UpdateView) (framer : State) (b : List ℕ) (at : ℕ) (r : Reason) → StandsFor us framer b
+        → IsFault b at r → HasFailed framer (record { at = at; reason = r }) }
+    ensures failed { (us : List UpdateView) (framer : State) (b : List ℕ) (f : FrameFault) → StandsFor us framer b
+        → HasFailed framer f → HasFault us b f }
 {}

@@ -26,9 +26,11 @@ pub fn step(alloc: Global, state: &mut State, piece: &[u8]) -> Result<Fed, FeedF
     requires open_still { GoesOnReading state.old.doing }
     requires some { 0 < length piece.now }
     requires room { state.old.at + length state.old.kept.items + length piece.now < 2 ^ 64 }
-    requires stands { (us : List UpdateView) × (b : List ℕ) × StandsAs state.old.doing us state.old.at state.old.kept.items b }
+    requires stands { (us : List UpdateView) × (b : List ℕ)
+        × StandsAs state.old.doing us state.old.at state.old.kept.items b }
     ensures framing { IsFraming state.new }
-    ensures steps { (us : List UpdateView) (b : List ℕ) → StandsAs state.old.doing us state.old.at state.old.kept.items b → Steps us b piece.now result state.new }
+    ensures steps { (us : List UpdateView) (b : List ℕ)
+        → StandsAs state.old.doing us state.old.at state.old.kept.items b → Steps us b piece.now result state.new }
 {
     match &state.doing {
         Doing::Lines => step_line(alloc, state, piece),
@@ -55,7 +57,8 @@ fn step_line(alloc: Global, state: &mut State, piece: &[u8]) -> Result<Fed, Feed
     requires room { state.old.at + length state.old.kept.items + length piece.now < 2 ^ 64 }
     requires stands { CanStand state.old.doing state.old.at state.old.kept.items }
     ensures framing { IsFraming state.new }
-    ensures steps { ForStand state.old.doing state.old.at state.old.kept.items (λ us b. Steps us b piece.now result state.new) }
+    ensures steps { ForStand state.old.doing state.old.at state.old.kept.items
+        (λ us b. Steps us b piece.now result state.new) }
 {
     let Ok(kept) = keep_line(&mut state.kept, piece) else {
         return Err(run_out(state));
@@ -83,7 +86,8 @@ fn end_line(alloc: Global, state: &mut State, taken: usize) -> Result<Fed, FeedF
     requires room { state.old.at + length state.old.kept.items < 2 ^ 64 }
     requires stands { CanStand state.old.doing state.old.at state.old.kept.items }
     ensures framing { IsFraming state.new }
-    ensures finishes { ForStand state.old.doing state.old.at state.old.kept.items (λ us b. Finishes us b taken result state.new) }
+    ensures finishes { ForStand state.old.doing state.old.at state.old.kept.items
+        (λ us b. Finishes us b taken result state.new) }
 {
     match judge_line(state.awaits, &state.kept[state.line..]) {
         LineIs::Gap => {
@@ -122,7 +126,8 @@ fn end_head(alloc: Global, state: &mut State, taken: usize) -> Result<Fed, FeedF
     requires room { state.old.at + length state.old.kept.items < 2 ^ 64 }
     requires stands { CanStand state.old.doing state.old.at state.old.kept.items }
     ensures framing { IsFraming state.new }
-    ensures finishes { ForStand state.old.doing state.old.at state.old.kept.items (λ us b. Finishes us b taken result state.new) }
+    ensures finishes { ForStand state.old.doing state.old.at state.old.kept.items
+        (λ us b. Finishes us b taken result state.new) }
 {
     match &state.doing {
         Doing::Lines => end_update_head(alloc, state, taken),
@@ -144,7 +149,8 @@ fn end_update_head(alloc: Global, state: &mut State, taken: usize) -> Result<Fed
     requires room { state.old.at + length state.old.kept.items < 2 ^ 64 }
     requires stands { CanStand doings.Lines state.old.at state.old.kept.items }
     ensures framing { IsFraming state.new }
-    ensures finishes { ForStand doings.Lines state.old.at state.old.kept.items (λ us b. Finishes us b taken result state.new) }
+    ensures finishes { ForStand doings.Lines state.old.at state.old.kept.items
+        (λ us b. Finishes us b taken result state.new) }
 {
     match plan_update_head(alloc, &state.kept) {
         Ok(plan) => {
@@ -170,7 +176,8 @@ fn end_patch_head(
     requires room { state.old.at + length state.old.kept.items < 2 ^ 64 }
     requires stands { CanStand state.old.doing state.old.at state.old.kept.items }
     ensures framing { IsFraming state.new }
-    ensures finishes { ForStand state.old.doing state.old.at state.old.kept.items (λ us b. Finishes us b taken result state.new) }
+    ensures finishes { ForStand state.old.doing state.old.at state.old.kept.items
+        (λ us b. Finishes us b taken result state.new) }
 {
     match plan_patch_head(alloc, used, before, &state.kept) {
         Ok(plan) => {

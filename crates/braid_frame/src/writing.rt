@@ -18,7 +18,8 @@ use std::alloc::Global;
 pub fn write_update<S: Sink>(alloc: Global, update: &Update, sink: &mut S) -> Result<(), WriteEnd>
     ensures ok { OnOk result (WritesAll (canonical update.now) (S.outflow sink.old) (S.outflow sink.new)) }
     ensures stream { IsStream (update.now ∷ []) (canonical update.now) }
-    ensures err { IfErr result (λ end. EndsWriting (canonical update.now) (S.outflow sink.old) (S.outflow sink.new) end) }
+    ensures err { IfErr result (λ end. EndsWriting (canonical update.now) (S.outflow sink.old)
+        (S.outflow sink.new) end) }
     ensures kept { S.beside_writes sink.new ≡ S.beside_writes sink.old }
 {
     // Of every update at hand its type says that the law on spellings holds of it.

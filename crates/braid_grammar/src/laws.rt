@@ -18,12 +18,14 @@ ghost use Rattle.braid_change.specs.Updates.{IsUpdate};
 /// Bytes are a stream of one list of updates, or have a fault at one place for one reason, or neither. Where there is
 /// a fault, it is the fault of all bytes that go on from these, and none of them are a stream.
 pub fn one_reading()
-    ensures decided { (b : List ℕ) → ((us : List UpdateView) × IsStream us b) ⊎ (((at : ℕ) × (r : Reason) × IsFault b at r) ⊎ IsTorn b) }
+    ensures decided { (b : List ℕ) → ((us : List UpdateView) × IsStream us b)
+        ⊎ (((at : ℕ) × (r : Reason) × IsFault b at r) ⊎ IsTorn b) }
     ensures stream { (us vs : List UpdateView) (b : List ℕ) → IsStream us b → IsStream vs b → us ≡ vs }
     ensures fault { (b : List ℕ) (at to : ℕ) (r s : Reason) → IsFault b at r → IsFault b to s → (at ≡ to) × (r ≡ s) }
     ensures apart { (us : List UpdateView) (b : List ℕ) (at : ℕ) (r : Reason) → IsStream us b → IsFault b at r → ⊥ }
     ensures stays { (b more : List ℕ) (at : ℕ) (r : Reason) → IsFault b at r → IsFault (b ++ more) at r }
-    ensures never { (us : List UpdateView) (b more : List ℕ) (at : ℕ) (r : Reason) → IsFault b at r → IsStream us (b ++ more) → ⊥ }
+    ensures never { (us : List UpdateView) (b more : List ℕ) (at : ℕ) (r : Reason) → IsFault b at r
+        → IsStream us (b ++ more) → ⊥ }
 {}
 
 /// The updates that bytes hold whole are one list, and those of a stream are its own.
@@ -43,7 +45,8 @@ pub fn fault_in_words()
 /// No bytes spell two updates, and none begin with two: what is spelled first is one update, with one rest behind it.
 pub fn one_update()
     ensures law { (u v : UpdateView) (bytes : List ℕ) → SpellsUpdate u bytes → SpellsUpdate v bytes → u ≡ v }
-    ensures first { (u v : UpdateView) (gap first rest other second left : List ℕ) → IsGap gap → SpellsUpdate u first → IsGap other → SpellsUpdate v second
+    ensures first { (u v : UpdateView) (gap first rest other second left : List ℕ) → IsGap gap → SpellsUpdate u first
+        → IsGap other → SpellsUpdate v second
         → gap ++ (first ++ rest) ≡ other ++ (second ++ left) → (u ≡ v) × (rest ≡ left) }
 {}
 
@@ -55,7 +58,8 @@ pub fn spelled_is_built()
 /// The canonical spelling of an update that the program can hold is a spelling of it and a gap, so a stream of this one
 /// update; and whatever follows it, the first update is this one.
 pub fn canonical_is_read()
-    ensures front { (u : UpdateView) → IsUpdate u → (front : List ℕ) × (rest : List ℕ) × SpellsUpdate u front × IsGap rest × (canonical u ≡ front ++ rest) }
+    ensures front { (u : UpdateView) → IsUpdate u → (front : List ℕ) × (rest : List ℕ) × SpellsUpdate u front
+        × IsGap rest × (canonical u ≡ front ++ rest) }
     ensures stream { (u : UpdateView) → IsUpdate u → IsStream (u ∷ []) (canonical u) }
     ensures first { (u v : UpdateView) (gap first rest more : List ℕ) → IsUpdate u → IsGap gap → SpellsUpdate v first
         → canonical u ++ more ≡ gap ++ (first ++ rest) → v ≡ u }
@@ -74,13 +78,16 @@ pub fn next_is_spelled()
 pub fn one_put_reading()
     ensures one { (parts : Parts) (body : List ℕ) (r s : Result UpdateView PutFault) → r ≢ Err Memory → s ≢ Err Memory
         → IsPutReading parts body r → IsPutReading parts body s → r ≡ s }
-    ensures some { (parts : Parts) (body : List ℕ) → (r : Result UpdateView PutFault) × (r ≢ Err Memory) × IsPutReading parts body r }
+    ensures some { (parts : Parts) (body : List ℕ) → (r : Result UpdateView PutFault) × (r ≢ Err Memory)
+        × IsPutReading parts body r }
     ensures built { (u : UpdateView) (parts : Parts) (body : List ℕ) → SpellsPut u parts body → IsUpdate u }
 {}
 
 /// Of a PUT the request's own `Content-Length` is not looked at, and a body without `Patches` is the content, whole.
 pub fn put_differences()
-    ensures length { (parts : Parts) (values : List (List ℕ)) (body : List ℕ) (r : Result UpdateView PutFault) → IsPutReading parts body r
+    ensures length { (parts : Parts) (values : List (List ℕ)) (body : List ℕ) (r : Result UpdateView PutFault)
+        → IsPutReading parts body r
         → IsPutReading (with_length values parts) body r }
-    ensures whole { (u : UpdateView) (parts : Parts) (body : List ℕ) → is_there parts.patches ≡ false → (s : SpellsPut u parts body) → s.whole.content ≡ body }
+    ensures whole { (u : UpdateView) (parts : Parts) (body : List ℕ) → is_there parts.patches ≡ false
+        → (s : SpellsPut u parts body) → s.whole.content ≡ body }
 {}

@@ -22,7 +22,8 @@ pub fn read_planned(
     bytes: &[u8],
 ) -> Result<Found<Patch>, Memory>
     requires room { at + length bytes.now < 2 ^ 64 }
-    ensures { IfOk result (λ found. Finds found (then_read (content_at plan.len at bytes.now) (λ text last end. Whole (patch_of plan text) last end))) }
+    ensures { IfOk result (λ found. Finds found (then_read (content_at plan.len at bytes.now)
+        (λ text last end. Whole (patch_of plan text) last end))) }
 {
     Ok(match read_content(alloc, plan.len, at, bytes)? {
         Found::Part => Found::Part,

@@ -114,7 +114,8 @@ impl Graph {
     fn reach_behind(&self, run: usize, ends: &mut [u32])
         requires within { run < runs_of self.now }
         requires ends { AreEnds self.now ends.old }
-        ensures reached { (F : List (List ℕ)) → IsReached self.now F F (run + 1) ends.old → IsReached self.now F F run ends.new }
+        ensures reached { (F : List (List ℕ)) → IsReached self.now F F (run + 1) ends.old
+            → IsReached self.now F F run ends.new }
     {
         let start = self.starts[run];
         if ends[run] <= start {

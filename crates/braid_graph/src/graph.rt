@@ -111,7 +111,8 @@ impl Graph {
     /// The number of the run of a new entry whose parents have these numbers: the last, where the newest entry is the
     /// one parent, and else a new one.
     fn run_after(&self, parents: &[u32]) -> u32
-        ensures run { (ps : List (List ℕ)) → AllZip (IsNumberOf self.now) ps parents.now → IsRunAfter self.now ps result }
+        ensures run { (ps : List (List ℕ)) → AllZip (IsNumberOf self.now) ps parents.now
+            → IsRunAfter self.now ps result }
     {
         let runs = self.starts.len() as u32;
         if parents.len() != 1 {

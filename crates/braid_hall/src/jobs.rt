@@ -51,11 +51,13 @@ fn run_both<J: Job, R: Threads + Wait + Sync>(rt: &R, place: &J::Place, a: &mut 
     ensures back { AllZip (J.done place.now) b.old b.new }
 {
     let mut front = ||
-        requires { IsSync R.row × IsSend J.row × IsSync J.Place.row × (0 < length a.now) × All (λ j. J.ready place.now j) a.now }
+        requires { IsSync R.row × IsSend J.row × IsSync J.Place.row × (0 < length a.now)
+            × All (λ j. J.ready place.now j) a.now }
         ensures { AllZip (J.done place.entry.now) a.entry.now a.exit.now }
     { run_all(rt, place, a) };
     let mut back = ||
-        requires { IsSync R.row × IsSend J.row × IsSync J.Place.row × (0 < length b.now) × All (λ j. J.ready place.now j) b.now }
+        requires { IsSync R.row × IsSend J.row × IsSync J.Place.row × (0 < length b.now)
+            × All (λ j. J.ready place.now j) b.now }
         ensures { AllZip (J.done place.entry.now) b.entry.now b.exit.now }
     { run_all(rt, place, b) };
     join_mut(rt, &mut front, &mut back);

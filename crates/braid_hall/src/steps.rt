@@ -21,7 +21,8 @@ impl<B: Annals> Hall<B> {
     // A load of the next ticket.
     fn look(&self, seat: &mut Seat<Option<B>, View<B::Entry>>) -> u64
         requires { (seat.old.table_id ≡ self.now) × (seat.old.me.0.live ≡ true) }
-        ensures { (seat.new.table_id ≡ seat.old.table_id) × (seat.new.me ≡ (after_look seat.old.me.0 result, seat.old.me.1)) }
+        ensures { (seat.new.table_id ≡ seat.old.table_id)
+            × (seat.new.me ≡ (after_look seat.old.me.0 result, seat.old.me.1)) }
     {
         self.table.shared.load::<Look>(seat, 0)
     }
@@ -30,7 +31,8 @@ impl<B: Annals> Hall<B> {
     fn draw(&self, seat: &mut Seat<Option<B>, View<B::Entry>>) -> u64
         requires hall { seat.old.table_id ≡ self.now }
         requires seat { CanDraw seat.old.me.0 }
-        ensures { (seat.new.table_id ≡ seat.old.table_id) × (seat.new.me ≡ (after_draw seat.old.me.0 result, seat.old.me.1)) }
+        ensures { (seat.new.table_id ≡ seat.old.table_id)
+            × (seat.new.me ≡ (after_draw seat.old.me.0 result, seat.old.me.1)) }
     {
         self.table.shared.fetch_add::<Draw>(seat, 0, 1)
     }
@@ -38,9 +40,11 @@ impl<B: Annals> Hall<B> {
     // A load of the ticket that is served. Where it is the pass's own, the turn begins at this load.
     fn find(&self, seat: &mut Seat<Option<B>, View<B::Entry>>, ticket: u64) -> u64
         requires hall { seat.old.table_id ≡ self.now }
-        requires seat { (seat.old.me.0.live ≡ true) × (seat.old.me.0.ticket ≡ Some ticket) × (seat.old.me.0.held ≡ false) }
+        requires seat { (seat.old.me.0.live ≡ true) × (seat.old.me.0.ticket ≡ Some ticket)
+            × (seat.old.me.0.held ≡ false) }
         ensures hall { seat.new.table_id ≡ seat.old.table_id }
-        ensures served { result ≡ ticket → (b : B) × Finds B.by seat.old.me.0 (B.entries b) × (seat.new.me ≡ (after_find seat.old.me.0 (B.entries b), (0, Some b) ∷ seat.old.me.1)) }
+        ensures served { result ≡ ticket → (b : B) × Finds B.by seat.old.me.0 (B.entries b)
+            × (seat.new.me ≡ (after_find seat.old.me.0 (B.entries b), (0, Some b) ∷ seat.old.me.1)) }
         ensures other { result ≢ ticket → seat.new.me ≡ seat.old.me }
     {
         self.table.shared.load::<Find>(seat, 1)
@@ -49,9 +53,11 @@ impl<B: Annals> Hall<B> {
     // Waits until the ticket is served, asleep on the word of the ticket that is served.
     fn await_turn<R: Wait>(&self, rt: &R, seat: &mut Seat<Option<B>, View<B::Entry>>, ticket: u64)
         requires hall { seat.old.table_id ≡ self.now }
-        requires seat { (seat.old.me.0.live ≡ true) × (seat.old.me.0.ticket ≡ Some ticket) × (seat.old.me.0.held ≡ false) }
+        requires seat { (seat.old.me.0.live ≡ true) × (seat.old.me.0.ticket ≡ Some ticket)
+            × (seat.old.me.0.held ≡ false) }
         ensures hall { seat.new.table_id ≡ seat.old.table_id }
-        ensures served { (b : B) × Finds B.by seat.old.me.0 (B.entries b) × (seat.new.me ≡ (after_find seat.old.me.0 (B.entries b), (0, Some b) ∷ seat.old.me.1)) }
+        ensures served { (b : B) × Finds B.by seat.old.me.0 (B.entries b)
+            × (seat.new.me ≡ (after_find seat.old.me.0 (B.entries b), (0, Some b) ∷ seat.old.me.1)) }
     {
         for _ in rt.forever() {
             let serving = self.find(seat, ticket);
@@ -127,8 +133,10 @@ impl<B: Annals> Hall<B> {
     )
         requires hall { (seat.old.table_id ≡ self.now) × (other.table_id ≡ self.now) }
         requires first { (seat.old.me.0.live ≡ true) × (seat.old.me.0.number ≡ 0) }
-        requires other { (other.me.0.live ≡ true) × (other.me.0.held ≡ false) × (other.me.0.ticket ≡ None) × (other.me.1 ≡ []) }
-        ensures merged { (seat.new.table_id ≡ seat.old.table_id) × (seat.new.me ≡ (after_join seat.old.me.0 other.me.0, seat.old.me.1)) }
+        requires other { (other.me.0.live ≡ true) × (other.me.0.held ≡ false) × (other.me.0.ticket ≡ None)
+            × (other.me.1 ≡ []) }
+        ensures merged { (seat.new.table_id ≡ seat.old.table_id)
+            × (seat.new.me ≡ (after_join seat.old.me.0 other.me.0, seat.old.me.1)) }
         ensures mine { IsPrefix seat.old.me.0.seen seat.new.me.0.seen }
         ensures theirs { IsPrefix other.me.0.seen seat.new.me.0.seen }
     {

@@ -27,10 +27,12 @@ pub trait Dialer: Drop + Send {
 
     /// Connects to the server's address.
     fn dial(&mut self, alloc: Global, server: &Bytes) -> Dialed<Self::Link>
-        ensures dial { Dials Self.Link.intake Self.Link.outflow server.now result (dialing self.old) (dialing self.new) };
+        ensures dial { Dials Self.Link.intake Self.Link.outflow server.now result (dialing self.old)
+            (dialing self.new) };
 
     /// Takes back the last link that it gave of those that are up, and ends its connection.
     fn hang_up(&mut self, link: Self::Link)
         requires up { IsFilled (dialing self.old).servers }
-        ensures hang_up { HangsUp (Self.Link.intake link) (Self.Link.outflow link) (dialing self.old) (dialing self.new) };
+        ensures hang_up { HangsUp (Self.Link.intake link) (Self.Link.outflow link) (dialing self.old)
+            (dialing self.new) };
 }

@@ -31,5 +31,6 @@ pub trait Door: Drop + Send {
     /// Takes back a link of this door, and ends its connection.
     fn put_back(&mut self, link: Self::Link)
         requires up { HasOne (doorway self.old).up }
-        ensures put_back { PutsBack (Self.Link.intake link) (Self.Link.outflow link) (doorway self.old) (doorway self.new) };
+        ensures put_back { PutsBack (Self.Link.intake link) (Self.Link.outflow link) (doorway self.old)
+            (doorway self.new) };
 }

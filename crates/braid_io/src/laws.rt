@@ -8,13 +8,15 @@ ghost use Rattle.braid_io.specs.declared.sink.Wrote.{Wrote as WriteAnswer};
 /// A read of a source in memory has one outcome: two reads of the same source into buffers of one length give the
 /// same answer and leave the same source.
 pub fn one_read()
-    ensures law { (old new later : MemIntake) (first second : ReadAnswer) (buf other : List ℕ) → length buf ≡ length other
+    ensures law { (old new later : MemIntake) (first second : ReadAnswer) (buf other : List ℕ)
+        → length buf ≡ length other
         → MemReads first buf old new → MemReads second other old later → (first ≡ second) × (new ≡ later) }
 {}
 
 /// A read of a source that never fails has one outcome, for buffers of one length.
 pub fn one_pure_read()
-    ensures law { (old new later : PureIntake) (first second : ReadAnswer) (buf other : List ℕ) → length buf ≡ length other
+    ensures law { (old new later : PureIntake) (first second : ReadAnswer) (buf other : List ℕ)
+        → length buf ≡ length other
         → PureReads first buf old new → PureReads second other old later → (first ≡ second) × (new ≡ later) }
 {}
 

@@ -42,7 +42,8 @@ impl MemKeeper {
     ///
     /// `fails` has the numbers of the loads and saves that fail, counted together from 0.
     pub fn new(kept: Vec<(Word, Bytes)>, fails: Vec<u64>) -> MemKeeper
-        ensures value { result ≡ record { saved = kept.items; fails = fails.items; calls = 0; load_faults = 0; save_faults = 0 } }
+        ensures value { result
+            ≡ record { saved = kept.items; fails = fails.items; calls = 0; load_faults = 0; save_faults = 0 } }
     {
         MemKeeper {
             saved: VecDeque::from(kept),
@@ -54,7 +55,8 @@ impl MemKeeper {
 
     /// What is kept under a name. It takes no memory.
     pub fn kept(&self, name: &[u8]) -> Option<&Bytes>
-        ensures value { MatchOption result (map.get (kept_of self.now) name.now ≡ None) (λ bytes. map.get (kept_of self.now) name.now ≡ Some bytes.now) }
+        ensures value { MatchOption result (map.get (kept_of self.now) name.now ≡ None)
+            (λ bytes. map.get (kept_of self.now) name.now ≡ Some bytes.now) }
     {
         for (known, bytes) in &self.saved {
             if name.cmp(known.get()).is_eq() {

@@ -94,7 +94,8 @@ impl Port for MemPort {
     ) -> Opened<MemDoor, MemBell>
         ensures open { Opens doorway_of ringing_of
             (record { server = server.now; workers = workers; take = take }) result (porting_of self.old) (porting_of self.new) }
-        ensures exact { MemOpens (record { server = server.now; workers = workers; take = take }) result self.old self.new }
+        ensures exact { MemOpens
+            (record { server = server.now; workers = workers; take = take }) result self.old self.new }
     {
         let Ok(server) = Bytes::of(alloc, server.get()) else {
             return Opened::Memory;

@@ -35,7 +35,8 @@ pub fn ranges_of(alloc: Global, change: &Change, len: u32) -> Result<Vec<Patch>,
 /// The joined patches, where each ends within a text of this length.
 fn joined_within(alloc: Global, patches: &[Patch], len: u32) -> Result<Vec<Patch>, RebaseFault>
     requires few { length patches.now < 2 ^ 32 }
-    ensures ok { IfOk result (λ list. (t : List ℕ) → length t ≡ len → ranges t (Patches patches.now) ≡ Some list.items) }
+    ensures ok { IfOk result (λ list. (t : List ℕ) → length t ≡ len
+        → ranges t (Patches patches.now) ≡ Some list.items) }
     ensures fault { IfErr result (λ fault. (t : List ℕ) → length t ≡ len → IsRangeFault t (Patches patches.now) fault) }
 {
     let list = joined(alloc, patches)?;

@@ -36,9 +36,12 @@ pub fn reach_of<D: Document>(
     change: &Change,
 ) -> Result<Reach, RebaseFault>
     requires shaped { IsShaped change.now }
-    ensures ranges { IfOk result (λ reach. ranges (row_chars (seen_rows marks.now (D.removed doc.now) (D.rows doc.now))) change.now ≡ Some reach.ranges.items) }
-    ensures reached { IfOk result (λ reach. IsReached (seen_rows marks.now (D.removed doc.now) (D.rows doc.now)) reach) }
-    ensures fault { IfErr result (λ fault. IsRangeFault (row_chars (seen_rows marks.now (D.removed doc.now) (D.rows doc.now))) change.now fault) }
+    ensures ranges { IfOk result (λ reach. ranges (row_chars
+        (seen_rows marks.now (D.removed doc.now) (D.rows doc.now))) change.now ≡ Some reach.ranges.items) }
+    ensures reached { IfOk result (λ reach. IsReached (seen_rows marks.now (D.removed doc.now)
+        (D.rows doc.now)) reach) }
+    ensures fault { IfErr result (λ fault. IsRangeFault
+        (row_chars (seen_rows marks.now (D.removed doc.now) (D.rows doc.now))) change.now fault) }
 {
     if let Change::Patches(patches) = change {
         let list = joined(alloc, patches.get())?;
@@ -60,7 +63,8 @@ fn reached<D: Document>(
     ranges: Vec<Patch>,
 ) -> Result<Reach, Memory>
     ensures ranges { IfOk result (λ reach. reach.ranges.items ≡ ranges.items) }
-    ensures reached { IfOk result (λ reach. IsReached (seen_rows marks.now (D.removed doc.now) (D.rows doc.now)) reach) }
+    ensures reached { IfOk result (λ reach. IsReached (seen_rows marks.now (D.removed doc.now)
+        (D.rows doc.now)) reach) }
 {
     let (first, end) = reach(&ranges);
     let places = doc.visible_between(alloc, marks, first, end)?;

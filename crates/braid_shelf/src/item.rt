@@ -25,7 +25,8 @@ pub enum Item {
 
 /// Reads a Token, whose first byte has been looked at.
 fn read_token(alloc: Global, bytes: &[u8]) -> Result<(Item, &[u8]), Stop>
-    ensures { Gives (λ read. (read.0, read.1.now)) result (Read (Item.Token (front_of is_in_token bytes.now)) (after is_in_token bytes.now)) }
+    ensures { Gives (λ read. (read.0, read.1.now)) result
+        (Read (Item.Token (front_of is_in_token bytes.now)) (after is_in_token bytes.now)) }
 {
     let (token, rest) = bytes.split_at(token_len(bytes));
     let token = Bytes::of(alloc, token)?;

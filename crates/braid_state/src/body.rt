@@ -27,8 +27,10 @@ pub fn read_body<'a>(
     unsent: u64,
     bytes: &'a [u8],
 ) -> Result<Body, Stop<'a>>
-    ensures counted { IfOk result (λ body. (length body.confirmed.items ≡ confirmed) × (length body.unsent.items ≡ unsent)) }
-    ensures ok { IfOk result (λ body. (gap : List ℕ) × IsGap gap × UpdatesThen (body.confirmed.items ++ body.unsent.items) (gap ++ end_mark) bytes.now) }
+    ensures counted { IfOk result (λ body. (length body.confirmed.items ≡ confirmed)
+        × (length body.unsent.items ≡ unsent)) }
+    ensures ok { IfOk result (λ body. (gap : List ℕ) × IsGap gap
+        × UpdatesThen (body.confirmed.items ++ body.unsent.items) (gap ++ end_mark) bytes.now) }
     ensures stop { IfErr result (λ stop. IfBad stop (λ rest. IsBadBody (confirmed + unsent) rest bytes.now)) }
 {
     let (confirmed, rest) = read_updates(alloc, confirmed, bytes)?;

@@ -27,7 +27,8 @@ pub struct Heading {
 
 /// Reads the lines of a head, and what follows them.
 pub fn read_head<'a>(alloc: Global, bytes: &'a [u8]) -> Result<(Heading, &'a [u8]), Stop<'a>>
-    ensures ok { IfOk result (λ read. HasLines head_lines (head_read read.0) read.1.now bytes.now × (read.0.confirmed + read.0.unsent ≤ most_updates)) }
+    ensures ok { IfOk result (λ read. HasLines head_lines (head_read read.0) read.1.now bytes.now
+        × (read.0.confirmed + read.0.unsent ≤ most_updates)) }
     ensures stop { IfErr result (λ stop. IfBad stop (λ rest. LacksLine rest bytes.now)) }
 {
     let (agent, rest) = read_owner(alloc, bytes)?;
@@ -45,7 +46,8 @@ pub fn read_head<'a>(alloc: Global, bytes: &'a [u8]) -> Result<(Heading, &'a [u8
 
 /// The agent that the bytes name.
 fn read_agent(alloc: Global, name: &[u8]) -> Result<Option<Agent>, Memory>
-    ensures found { IfOk result (λ found. MatchOption found (IsAgent name.now → ⊥) (λ agent. (agent ≡ name.now) × IsAgent name.now)) }
+    ensures found { IfOk result (λ found. MatchOption found (IsAgent name.now → ⊥)
+        (λ agent. (agent ≡ name.now) × IsAgent name.now)) }
 {
     match Agent::read(alloc, name) {
         Ok(agent) => Ok(Some(agent)),
@@ -58,7 +60,8 @@ fn read_agent(alloc: Global, name: &[u8]) -> Result<Option<Agent>, Memory>
 
 /// Reads the title and the line of the agent at the front of all bytes.
 fn read_owner<'a>(alloc: Global, bytes: &'a [u8]) -> Result<(Agent, &'a [u8]), Stop<'a>>
-    ensures ok { IfOk result (λ read. (head : Head) → head.agent ≡ read.0 → HasLines (take 2 head_lines) head read.1.now bytes.now) }
+    ensures ok { IfOk result (λ read. (head : Head) → head.agent ≡ read.0
+        → HasLines (take 2 head_lines) head read.1.now bytes.now) }
     ensures stop { IfErr result (λ stop. IfBad stop (λ rest. LacksLine rest bytes.now)) }
 {
     let Some(rest) = pass_line(Line::Title, bytes) else {
@@ -91,7 +94,8 @@ fn read_place<'a>(bytes: &'a [u8]) -> Result<(&'a [u8], &'a [u8], &'a [u8]), Sto
 
 /// The address in the line of a server, and what follows.
 fn server_line(bytes: &[u8]) -> Option<(&[u8], &[u8])>
-    ensures found { MatchOption result ((server more : List ℕ) → IsServer server → bytes.now ≢ name_of lines.Server ++ (server ++ 10 ∷ more))
+    ensures found { MatchOption result ((server more : List ℕ) → IsServer server
+        → bytes.now ≢ name_of lines.Server ++ (server ++ 10 ∷ more))
         (λ cut. IsServer cut.0.now × (bytes.now ≡ name_of lines.Server ++ (cut.0.now ++ 10 ∷ cut.1.now))) }
 {
     let Some((server, rest)) = read_line(Line::Server, bytes) else {
@@ -106,7 +110,8 @@ fn server_line(bytes: &[u8]) -> Option<(&[u8], &[u8])>
 
 /// The path in the line of a path, and what follows.
 fn path_line(bytes: &[u8]) -> Option<(&[u8], &[u8])>
-    ensures found { MatchOption result ((path more : List ℕ) → IsPath path → bytes.now ≢ name_of lines.Path ++ (path ++ 10 ∷ more))
+    ensures found { MatchOption result ((path more : List ℕ) → IsPath path
+        → bytes.now ≢ name_of lines.Path ++ (path ++ 10 ∷ more))
         (λ cut. IsPath cut.0.now × (bytes.now ≡ name_of lines.Path ++ (cut.0.now ++ 10 ∷ cut.1.now))) }
 {
     let Some((path, rest)) = read_line(Line::Path, bytes) else {
@@ -121,7 +126,8 @@ fn path_line(bytes: &[u8]) -> Option<(&[u8], &[u8])>
 
 /// Reads the lines of both counts and the empty line behind that of the path.
 fn read_counts<'a>(bytes: &'a [u8]) -> Result<(u64, u64, &'a [u8]), Stop<'a>>
-    ensures ok { IfOk result (λ read. (head : Head) (whole : List ℕ) → head.confirmed ≡ decimal read.0 → head.unsent ≡ decimal read.1
+    ensures ok { IfOk result (λ read. (head : Head) (whole : List ℕ) → head.confirmed ≡ decimal read.0
+        → head.unsent ≡ decimal read.1
         → HasLines (take 4 head_lines) head bytes.now whole → HasLines head_lines head read.2.now whole) }
     ensures few { IfOk result (λ read. read.0 + read.1 ≤ most_updates) }
     ensures stop { IfErr result (λ stop. IfBad stop (λ rest. (head : Head) (whole : List ℕ)
@@ -144,7 +150,8 @@ fn read_counts<'a>(bytes: &'a [u8]) -> Result<(u64, u64, &'a [u8]), Stop<'a>>
 
 /// The number in the line of a count, and what follows. A number above the most updates is read as one more than these.
 fn count_line(line: Line, bytes: &[u8]) -> Option<(u64, &[u8])>
-    ensures found { MatchOption result ((digits more : List ℕ) → IsCount digits → bytes.now ≢ name_of line ++ (digits ++ 10 ∷ more))
+    ensures found { MatchOption result ((digits more : List ℕ) → IsCount digits
+        → bytes.now ≢ name_of line ++ (digits ++ 10 ∷ more))
         (λ cut. (digits : List ℕ) × IsCount digits × (cut.0 ≡ min (count_of digits) 524_289) × (bytes.now ≡ name_of line ++ (digits ++ 10 ∷ cut.1.now))) }
 {
     let Some((digits, rest)) = read_line(line, bytes) else {

@@ -10,9 +10,11 @@ ghost use Rattle.braid_state.specs.StateFaults.{IsStateFault};
 /// spell a state have none.
 pub fn one_reading()
     ensures state { (s t : State) (bytes : List ℕ) → SpellsState s bytes → SpellsState t bytes → s ≡ t }
-    ensures place { (bytes : List ℕ) (at to : ℕ) → IsStateFault bytes (faults.BadState at) → IsStateFault bytes (faults.BadState to) → at ≡ to }
+    ensures place { (bytes : List ℕ) (at to : ℕ) → IsStateFault bytes (faults.BadState at)
+        → IsStateFault bytes (faults.BadState to) → at ≡ to }
     ensures within { (bytes : List ℕ) (at : ℕ) → IsStateFault bytes (faults.BadState at) → at ≤ length bytes }
-    ensures apart { (s : State) (bytes : List ℕ) (at : ℕ) → SpellsState s bytes → IsStateFault bytes (faults.BadState at) → ⊥ }
+    ensures apart { (s : State) (bytes : List ℕ) (at : ℕ) → SpellsState s bytes
+        → IsStateFault bytes (faults.BadState at) → ⊥ }
 {}
 
 /// The text of a state spells it.
@@ -23,7 +25,9 @@ pub fn text_is_spelled()
 /// A file is a state whole or not at all: no proper front of a state's text is the text of a state, and nothing longer
 /// that begins with it is. The same holds of every spelling of a state.
 pub fn whole_only()
-    ensures front { (s t : State) (front more : List ℕ) → IsState s → state_text s ≡ front ++ more → SpellsState t front → more ≡ [] }
+    ensures front { (s t : State) (front more : List ℕ) → IsState s → state_text s ≡ front ++ more
+        → SpellsState t front → more ≡ [] }
     ensures longer { (s t : State) (more : List ℕ) → IsState s → SpellsState t (state_text s ++ more) → more ≡ [] }
-    ensures any { (s t : State) (bytes more : List ℕ) → SpellsState s bytes → SpellsState t (bytes ++ more) → more ≡ [] }
+    ensures any { (s t : State) (bytes more : List ℕ) → SpellsState s bytes → SpellsState t (bytes ++ more)
+        → more ≡ [] }
 {}

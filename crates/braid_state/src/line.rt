@@ -37,7 +37,8 @@ impl Line {
 
 /// The value of this line at the front of the bytes, and what follows its LF.
 pub fn read_line(line: Line, bytes: &[u8]) -> Option<(&[u8], &[u8])>
-    ensures found { MatchOption result ((value rest : List ℕ) → Lacks 10 value → bytes.now ≢ name_of line ++ (value ++ 10 ∷ rest))
+    ensures found { MatchOption result ((value rest : List ℕ) → Lacks 10 value
+        → bytes.now ≢ name_of line ++ (value ++ 10 ∷ rest))
         (λ cut. Lacks 10 cut.0.now × (bytes.now ≡ name_of line ++ (cut.0.now ++ 10 ∷ cut.1.now))) }
 {
     let Some(rest) = after(line.name(), bytes) else {

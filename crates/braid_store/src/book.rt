@@ -72,7 +72,8 @@ impl Book {
     pub fn put(&mut self, alloc: Global, path: &Bytes, by: u32, update: Update) -> Put
         requires short { length path.now ≤ 1024 }
         ensures answer { IsPut self.old (record { path = path.now; by = by; update = update }) result }
-        ensures taken { result ≡ New → self.new ≡ self.old ++ (record { path = path.now; by = by; update = update }) ∷ [] }
+        ensures taken { result ≡ New → self.new ≡ self.old ++ (record { path = path.now; by = by; update = update })
+            ∷ [] }
         ensures kept { result ≢ New → self.new ≡ self.old }
         ensures known { Contains (of_path self.old path.now) update → result ≡ Known }
     {
@@ -125,7 +126,8 @@ impl Book {
     /// no more is there. It takes no memory, and goes on from where the cursor stands.
     pub fn next_for(&self, cursor: &mut Cursor) -> Option<&Update>
         requires fits { IsFit self.now cursor.old }
-        ensures next { IsNext (of_path self.now cursor.old.path) cursor.old.from cursor.old.passed (option_copied result) cursor.new.passed }
+        ensures next { IsNext (of_path self.now cursor.old.path) cursor.old.from cursor.old.passed
+            (option_copied result) cursor.new.passed }
         ensures kept { cursor.new ≡ record cursor.old { passed = cursor.new.passed } }
         ensures fits { IsFit self.now cursor.new }
     {

@@ -49,7 +49,8 @@ impl Contents {
     fn put_behind(&mut self, alloc: Global, n: usize, by: u32, update: Update) -> Put
         requires kept { IsKept self.old }
         requires there { n < length (paths_of (entries_in self.old)) }
-        ensures puts { (path : List ℕ) → slice_get (paths_of (entries_in self.old)) n ≡ Some path → Puts self.old self.new (record { path = path; by = by; update = update }) result }
+        ensures puts { (path : List ℕ) → slice_get (paths_of (entries_in self.old)) n ≡ Some path
+            → Puts self.old self.new (record { path = path; by = by; update = update }) result }
     {
         let room = self.room();
         let Some(resource) = self.resources.get_index_mut(n) else {

@@ -71,7 +71,8 @@ impl Cursor {
 
 /// The first number from `start` on, below `end`, that is not in a set.
 fn first_unmarked(marks: &Marks, start: u32, end: u32) -> Option<u32>
-    ensures found { IfSome result (λ n. (start ≤ n) × (n < end) × ¬ (IsMarked marks.now n) × ((k : ℕ) → start ≤ k → k < n → IsMarked marks.now k)) }
+    ensures found { IfSome result (λ n. (start ≤ n) × (n < end) × ¬ (IsMarked marks.now n)
+        × ((k : ℕ) → start ≤ k → k < n → IsMarked marks.now k)) }
     ensures none { IfNone result ((k : ℕ) → start ≤ k → k < end → IsMarked marks.now k) }
 {
     for n in start..end {

@@ -31,7 +31,8 @@ pub fn read_at(alloc: Global, resource: &Resource, at: Option<&Frontier>) -> Res
 
 /// A copy of the version that is asked for, or the resource's own frontier.
 fn version_of(alloc: Global, resource: &Resource, at: Option<&Frontier>) -> Result<Frontier, Memory>
-    ensures ok { IfOk result (λ version. MatchOption (option_copied at.entry) (IsFrontierOf (graph_of resource.now) version) (λ at. version ≡ at)) }
+    ensures ok { IfOk result (λ version. MatchOption (option_copied at.entry)
+        (IsFrontierOf (graph_of resource.now) version) (λ at. version ≡ at)) }
 {
     match at {
         Some(at) => at.copy(alloc),

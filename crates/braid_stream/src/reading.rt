@@ -48,8 +48,10 @@ impl Reading {
         ensures readable { IsReadable self.new }
         ensures answers { (us : List UpdateView) (bytes : List ℕ) → GoesOn self.old → HasTaken us self.old bytes
             → Answers us bytes result self.new (S.intake source.old) (S.intake source.new) }
-        ensures at_hand { (us : List UpdateView) (bytes : List ℕ) → GoesOn self.old → HasTaken us self.old bytes → HaveAnswer us bytes → source.new ≡ source.old }
-        ensures again { (next : Answer) → HasEnded self.old next → (result ≡ next) × (self.new ≡ self.old) × (source.new ≡ source.old) }
+        ensures at_hand { (us : List UpdateView) (bytes : List ℕ) → GoesOn self.old → HasTaken us self.old bytes
+            → HaveAnswer us bytes → source.new ≡ source.old }
+        ensures again { (next : Answer) → HasEnded self.old next
+            → (result ≡ next) × (self.new ≡ self.old) × (source.new ≡ source.old) }
         ensures kept { S.beside_reads source.new ≡ S.beside_reads source.old }
     {
         match self.ended {
@@ -64,7 +66,8 @@ impl Reading {
         requires stands { (us : List UpdateView) × (bytes : List ℕ) × HasTaken us self.old bytes }
         ensures answers { (us : List UpdateView) (bytes : List ℕ) → HasTaken us self.old bytes
             → Answers us bytes result self.new (S.intake source.old) (S.intake source.new) }
-        ensures at_hand { (us : List UpdateView) (bytes : List ℕ) → HasTaken us self.old bytes → HaveAnswer us bytes → source.new ≡ source.old }
+        ensures at_hand { (us : List UpdateView) (bytes : List ℕ) → HasTaken us self.old bytes → HaveAnswer us bytes
+            → source.new ≡ source.old }
         ensures kept { S.beside_reads source.new ≡ S.beside_reads source.old }
     {
         'reading: loop {
@@ -81,7 +84,8 @@ impl Reading {
     fn feed_held(&mut self) -> Option<Next>
         requires going { GoesOn self.old }
         requires stands { (us : List UpdateView) × (bytes : List ℕ) × HasTaken us self.old bytes }
-        ensures feeds { (us : List UpdateView) (bytes : List ℕ) → HasTaken us self.old bytes → FeedsHeld us bytes result self.new }
+        ensures feeds { (us : List UpdateView) (bytes : List ℕ) → HasTaken us self.old bytes
+            → FeedsHeld us bytes result self.new }
         ensures read { self.new.read ≡ self.old.read }
     {
         match self.framer.feed(self.held.get()) {
@@ -128,7 +132,8 @@ impl Reading {
         requires going { GoesOn self.old }
         requires fed { self.old.held ≡ [] }
         requires stands { (us : List UpdateView) × (bytes : List ℕ) × HasTaken us self.old bytes }
-        ensures ends { (us : List UpdateView) (bytes : List ℕ) → HasTaken us self.old bytes → EndsSource us bytes result self.new }
+        ensures ends { (us : List UpdateView) (bytes : List ℕ) → HasTaken us self.old bytes
+            → EndsSource us bytes result self.new }
     {
         if self.framer.resting() {
             self.end(Ended::End)

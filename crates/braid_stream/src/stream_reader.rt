@@ -39,9 +39,11 @@ impl<S: Source> StreamReader<S> {
     /// leaves itself and its source alone.
     pub fn next(&mut self) -> Next
         ensures readable { IsReadable (reader_of self.old) }
-        ensures answers { (us : List UpdateView) (bytes : List ℕ) → GoesOn (reader_of self.old) → HasTaken us (reader_of self.old) bytes
+        ensures answers { (us : List UpdateView) (bytes : List ℕ) → GoesOn (reader_of self.old)
+            → HasTaken us (reader_of self.old) bytes
             → Answers us bytes result (reader_of self.new) (S.intake (source_of self.old)) (S.intake (source_of self.new)) }
-        ensures at_hand { (us : List UpdateView) (bytes : List ℕ) → GoesOn (reader_of self.old) → HasTaken us (reader_of self.old) bytes
+        ensures at_hand { (us : List UpdateView) (bytes : List ℕ) → GoesOn (reader_of self.old)
+            → HasTaken us (reader_of self.old) bytes
             → HaveAnswer us bytes → source_of self.new ≡ source_of self.old }
         ensures again { (next : Answer) → HasEnded (reader_of self.old) next → (result ≡ next) × (self.new ≡ self.old) }
         ensures kept { S.beside_reads (source_of self.new) ≡ S.beside_reads (source_of self.old) }

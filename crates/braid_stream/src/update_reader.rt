@@ -53,8 +53,10 @@ impl UpdateReader {
         ensures readable { IsReadable self.old }
         ensures answers { (us : List UpdateView) (bytes : List ℕ) → GoesOn self.old → HasTaken us self.old bytes
             → Answers us bytes result self.new (S.intake source.old) (S.intake source.new) }
-        ensures at_hand { (us : List UpdateView) (bytes : List ℕ) → GoesOn self.old → HasTaken us self.old bytes → HaveAnswer us bytes → source.new ≡ source.old }
-        ensures again { (next : Answer) → HasEnded self.old next → (result ≡ next) × (self.new ≡ self.old) × (source.new ≡ source.old) }
+        ensures at_hand { (us : List UpdateView) (bytes : List ℕ) → GoesOn self.old → HasTaken us self.old bytes
+            → HaveAnswer us bytes → source.new ≡ source.old }
+        ensures again { (next : Answer) → HasEnded self.old next
+            → (result ≡ next) × (self.new ≡ self.old) × (source.new ≡ source.old) }
         ensures kept { S.beside_reads source.new ≡ S.beside_reads source.old }
     {
         self.reading.next(source)

@@ -16,7 +16,8 @@ pub fn add_version<D: Document>(doc: &mut D, id: Id, resolved: &Resolved)
     requires distinct { AreDifferent resolved.now.deletes.items }
     requires fresh { (d : RowDeletion) → Contains (D.removed doc.old) d → d.by < length (D.stamps doc.old) }
     requires fits { total_len resolved.now.runs.items < 2 ^ 32 }
-    requires roomy { HasRoomFor (D.room doc.old) 1 (total_len resolved.now.runs.items) (length resolved.now.deletes.items) }
+    requires roomy { HasRoomFor (D.room doc.old) 1 (total_len resolved.now.runs.items)
+        (length resolved.now.deletes.items) }
     ensures stamps { D.stamps doc.new ≡ D.stamps doc.old ++ record { id = id; level = resolved.now.level } ∷ [] }
     ensures placed { ListsWithRuns (D.stamps doc.new) (D.rows doc.old) (D.rows doc.new) resolved.now.runs.items }
     ensures deletions { IsPermutation

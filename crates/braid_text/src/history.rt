@@ -32,10 +32,13 @@ pub struct History<D: Document> {
 impl<D: Document> History<D> {
     /// What an update adds where it can be taken, or the answer that it gets.
     pub fn judge(&self, alloc: Global, update: &Update, room: &Room) -> Result<Resolved, Accept>
-        requires stands { Stands self.now.updates.items self.now.graph (D.stamps self.now.document) (D.rows self.now.document) (D.removed self.now.document) }
-        ensures ok { IfOk result (λ resolved. IsTakable self.now.updates.items (D.removed self.now.document) (D.rows self.now.document) update.now resolved) }
+        requires stands { Stands self.now.updates.items self.now.graph (D.stamps self.now.document)
+            (D.rows self.now.document) (D.removed self.now.document) }
+        ensures ok { IfOk result (λ resolved. IsTakable self.now.updates.items (D.removed self.now.document)
+            (D.rows self.now.document) update.now resolved) }
         ensures room { OnOk result (HasRoom (needs_of self.now.updates.items update.now) room.now) }
-        ensures refusal { IfErr result (λ answer. IsAnswer room.now self.now.updates.items update.now answer × (answer ≢ New)) }
+        ensures refusal { IfErr result (λ answer. IsAnswer room.now self.now.updates.items update.now answer
+            × (answer ≢ New)) }
         ensures known { Contains self.now.updates.items update.now → result ≡ Err Known }
     {
         if let Some(n) = self.graph.index_of(update.id()) {
@@ -70,14 +73,19 @@ impl<D: Document> History<D> {
     ///
     /// Errors: `Memory` where there was none to grow; nothing is changed then.
     pub fn take(&mut self, alloc: Global, update: Update, resolved: Resolved) -> Result<(), Memory>
-        requires stands { Stands self.old.updates.items self.old.graph (D.stamps self.old.document) (D.rows self.old.document) (D.removed self.old.document) }
-        requires takable { IsTakable self.old.updates.items (D.removed self.old.document) (D.rows self.old.document) update resolved }
+        requires stands { Stands self.old.updates.items self.old.graph (D.stamps self.old.document)
+            (D.rows self.old.document) (D.removed self.old.document) }
+        requires takable { IsTakable self.old.updates.items (D.removed self.old.document)
+            (D.rows self.old.document) update resolved }
         requires versions { length self.old.updates.items < 524288 }
-        requires elements { length (elements_of self.old.updates.items) + (needs_of self.old.updates.items update).elements ≤ 33554432 }
-        requires deletions { length (deletions_of self.old.updates.items) + (needs_of self.old.updates.items update).deletions ≤ 67108864 }
+        requires elements { length (elements_of self.old.updates.items) +
+            (needs_of self.old.updates.items update).elements ≤ 33554432 }
+        requires deletions { length (deletions_of self.old.updates.items) +
+            (needs_of self.old.updates.items update).deletions ≤ 67108864 }
         ensures taken { OnOk result (self.new.updates.items ≡ self.old.updates.items ++ update ∷ []) }
         ensures kept { OnErr result (self.new.updates.items ≡ self.old.updates.items) }
-        ensures stands { Stands self.new.updates.items self.new.graph (D.stamps self.new.document) (D.rows self.new.document) (D.removed self.new.document) }
+        ensures stands { Stands self.new.updates.items self.new.graph (D.stamps self.new.document)
+            (D.rows self.new.document) (D.removed self.new.document) }
     {
         let name = self.prepare(alloc, &update, &resolved)?;
         add_version(&mut self.document, name, &resolved);
@@ -90,19 +98,25 @@ impl<D: Document> History<D> {
     ///
     /// Errors: `Memory` where there was none to grow; graph and document are unchanged then.
     fn prepare(&mut self, alloc: Global, update: &Update, resolved: &Resolved) -> Result<Id, Memory>
-        requires stands { Stands self.old.updates.items self.old.graph (D.stamps self.old.document) (D.rows self.old.document) (D.removed self.old.document) }
-        requires takable { IsTakable self.old.updates.items (D.removed self.old.document) (D.rows self.old.document) update.now resolved.now }
+        requires stands { Stands self.old.updates.items self.old.graph (D.stamps self.old.document)
+            (D.rows self.old.document) (D.removed self.old.document) }
+        requires takable { IsTakable self.old.updates.items (D.removed self.old.document)
+            (D.rows self.old.document) update.now resolved.now }
         requires versions { length self.old.updates.items < 524288 }
-        requires elements { length (elements_of self.old.updates.items) + (needs_of self.old.updates.items update.now).elements ≤ 33554432 }
-        requires deletions { length (deletions_of self.old.updates.items) + (needs_of self.old.updates.items update.now).deletions ≤ 67108864 }
+        requires elements { length (elements_of self.old.updates.items) +
+            (needs_of self.old.updates.items update.now).elements ≤ 33554432 }
+        requires deletions { length (deletions_of self.old.updates.items) +
+            (needs_of self.old.updates.items update.now).deletions ≤ 67108864 }
         ensures named { IfOk result (λ name. name ≡ update.now.id) }
-        ensures added { OnOk result (self.new.graph ≡ self.old.graph ++ record { id = update.now.id; parents = update.now.parents } ∷ []) }
+        ensures added { OnOk result (self.new.graph ≡ self.old.graph
+            ++ record { id = update.now.id; parents = update.now.parents } ∷ []) }
         ensures kept { OnErr result (self.new.graph ≡ self.old.graph) }
         ensures updates { self.new.updates.items ≡ self.old.updates.items }
         ensures stamps { D.stamps self.new.document ≡ D.stamps self.old.document }
         ensures rows { D.rows self.new.document ≡ D.rows self.old.document }
         ensures removed { D.removed self.new.document ≡ D.removed self.old.document }
-        ensures room { OnOk result (HasRoomFor (D.room self.new.document) 1 (total_len resolved.now.runs.items) (length resolved.now.deletes.items)) }
+        ensures room { OnOk result (HasRoomFor (D.room self.new.document) 1 (total_len resolved.now.runs.items)
+            (length resolved.now.deletes.items)) }
         ensures reserved { OnOk result (vec_len self.new.updates < vec_capacity self.new.updates) }
         ensures fits { OnOk result (total_len resolved.now.runs.items < 2 ^ 32) }
     {
@@ -118,8 +132,10 @@ impl<D: Document> History<D> {
 
     /// What is read at a frontier.
     pub fn read(&self, alloc: Global, at: &Frontier) -> Result<Text, Unknown>
-        requires stands { Stands self.now.updates.items self.now.graph (D.stamps self.now.document) (D.rows self.now.document) (D.removed self.now.document) }
-        ensures ok { IfOk result (λ text. HoldsAll (graph_of self.now.updates.items) at.now × (text ≡ text_at self.now.updates.items at.now)) }
+        requires stands { Stands self.now.updates.items self.now.graph (D.stamps self.now.document)
+            (D.rows self.now.document) (D.removed self.now.document) }
+        ensures ok { IfOk result (λ text. HoldsAll (graph_of self.now.updates.items) at.now
+            × (text ≡ text_at self.now.updates.items at.now)) }
         ensures fault { IfErr result (λ unknown. IsUnknown (graph_of self.now.updates.items) at.now unknown) }
     {
         let marks = match self.graph.ancestry(alloc, at) {

@@ -83,7 +83,8 @@ pub trait Document: Drop {
         requires there { HasPlace (rows self.old) at }
         requires once { ¬ (Contains (removed self.old) (record { at = at; by = length (stamps self.old) - 1 })) }
         requires roomy { HasRoomFor (room self.old) 0 0 1 }
-        ensures deletions { PutsOne (removed self.old) (record { at = at; by = length (stamps self.old) - 1 }) (removed self.new) }
+        ensures deletions { PutsOne (removed self.old) (record { at = at; by = length (stamps self.old) - 1 })
+            (removed self.new) }
         ensures stamps { stamps self.new ≡ stamps self.old }
         ensures rows { rows self.new ≡ rows self.old }
         ensures room { Spends (room self.old) (room self.new) 0 0 1 };
@@ -95,7 +96,8 @@ pub trait Document: Drop {
     /// The place of element number `n`, counted from 0, of those that the marked versions see. None where they see no
     /// more than `n`.
     fn visible_at(&self, marks: &Marks, n: u32) -> Option<At>
-        ensures value { result ≡ option_map place_in (slice_get (seen_rows marks.now (removed self.now) (rows self.now)) n) };
+        ensures value { result ≡ option_map place_in (slice_get
+            (seen_rows marks.now (removed self.now) (rows self.now)) n) };
 
     /// The places of the elements from number `from` up to and without number `to`, counted from 0, of those that the
     /// marked versions see. Past the last there are none.
@@ -115,7 +117,8 @@ pub trait Document: Drop {
     ///
     /// Errors: `Memory` where there was none for them.
     fn text(&self, alloc: Global, marks: &Marks) -> Result<Vec<char>, Memory>
-        ensures ok { IfOk result (λ text. text.items ≡ map char_in (seen_rows marks.now (removed self.now) (rows self.now))) };
+        ensures ok { IfOk result (λ text. text.items ≡ map char_in
+            (seen_rows marks.now (removed self.now) (rows self.now))) };
 
     /// How many elements are listed, deleted ones too.
     fn elements(&self) -> u32

@@ -61,7 +61,8 @@ pub fn tree_grows()
         → (text : List ℕ) (above : List Key) (n : ℕ) (d : List (Node Key)) → IsTree key_cmp d
         → AreNewKeys key n d → (above ≡ []) ⊎ HasPath d above → AreSmaller key_cmp (key n) above
         → IsTree key_cmp (with_nodes key_cmp (run key above n text) d) }
-    ensures members { (xs d : List (Node Key)) (z : Node Key) → Member z (with_nodes key_cmp xs d) ↔ (Member z xs ⊎ Member z d) }
+    ensures members { (xs d : List (Node Key)) (z : Node Key)
+        → Member z (with_nodes key_cmp xs d) ↔ (Member z xs ⊎ Member z d) }
 {}
 
 /// An element is its node without the path: in a tree its origin is the root, or a listed node with a smaller key. So
@@ -80,7 +81,8 @@ pub fn elements_keep_origins()
 pub fn seen_is_decided()
     ensures deleted { (marks : List Bool) (deletions : List RowDeletion) (at : At)
         → IsTrue (is_deleted_by marks deletions at) ↔ Deletes marks deletions at }
-    ensures seen { (marks : List Bool) (deletions : List RowDeletion) (row : Row) → IsTrue (is_seen_by marks deletions row)
+    ensures seen { (marks : List Bool) (deletions : List RowDeletion) (row : Row)
+        → IsTrue (is_seen_by marks deletions row)
         ↔ (IsMarked marks row.at.version × ¬ (Deletes marks deletions row.at)) }
     ensures unordered { (marks : List Bool) (ds es : List RowDeletion) (rows : List Row)
         → ((d : RowDeletion) → Contains ds d ↔ Contains es d) → seen_rows marks ds rows ≡ seen_rows marks es rows }
@@ -94,7 +96,8 @@ pub fn seen_is_decided()
 /// A run that is put where its origin and its version's level allow it leaves a tree: so the rows of a document list
 /// a tree from the first run on.
 pub fn run_leaves_a_tree()
-    ensures law { (vs : List Stamp) (old : List Row) (es : List (Node Key)) (after : Option At) (above : List Key) (n : ℕ)
+    ensures law { (vs : List Stamp) (old : List Row) (es : List (Node Key)) (after : Option At) (above : List Key)
+        (n : ℕ)
         (text : List ℕ) → Inserts vs old es after above n
         → IsTree key_cmp (with_nodes key_cmp (run (next_key vs) above n text) es) }
 {}
