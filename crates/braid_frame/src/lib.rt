@@ -10,8 +10,6 @@
 //! ends and once when its head ends, and a content is read into a text once. A framer holds one head or content and the
 //! patches of one update at most. It takes memory for what it keeps and for the update that it builds, and for nothing
 //! else; want of memory is answered as such, and nothing is said of such a framer but that it answers so for good.
-//! Measured, not proved: on 400 bodies of 64 KiB in ASCII, `braid check` used 0.07 s of processor time where `sha256sum`
-//! used 0.13 s on the same bytes in the same run, a ratio of 0.5.
 #![tactic(auto)]
 
 mod contents;
