@@ -8,7 +8,6 @@ use crate::patch::Patch;
 use crate::text::Text;
 use crate::update::Update;
 use braid_ids::{Bytes, Frontier, Id, Memory};
-use itoa::Buffer;
 use std::alloc::Global;
 
 /// The empty line that ends an update.
@@ -72,7 +71,7 @@ fn push_change(out: &mut Bytes, change: &Change) -> Result<(), Memory>
         }
         Change::Patches(patches) => {
             out.push(b"Patches: ")?;
-            push_number(out, patches.get().len() as u64)?;
+            out.push_number(patches.get().len() as u64)?;
             out.push(b"\r\n\r\n")?;
             push_patches(out, patches.get())
         }
@@ -106,9 +105,9 @@ fn push_range(out: &mut Bytes, start: u32, end: u32) -> Result<(), Memory>
     ensures ok { OnOk result (out.new ≡ out.old ++ range_text start end) }
 {
     out.push(b"text [")?;
-    push_number(out, start as u64)?;
+    out.push_number(start as u64)?;
     out.push(b":")?;
-    push_number(out, end as u64)?;
+    out.push_number(end as u64)?;
     out.push(b"]")
 }
 
@@ -118,7 +117,7 @@ fn push_length(out: &mut Bytes, text: &Text) -> Result<(), Memory>
     ensures ok { OnOk result (out.new ≡ out.old ++ length_text text.now) }
 {
     out.push(b"Content-Length: ")?;
-    push_number(out, text.utf8_len())
+    out.push_number(text.utf8_len())
 }
 
 /// Puts a text at the end, behind an empty line.
@@ -128,12 +127,4 @@ fn push_content(out: &mut Bytes, text: &Text) -> Result<(), Memory>
     out.push(b"\r\n\r\n")?;
     text.push_to(out)?;
     out.push(b"\r\n")
-}
-
-/// Puts a number in decimal at the end.
-fn push_number(out: &mut Bytes, n: u64) -> Result<(), Memory>
-    ensures ok { OnOk result (out.new ≡ out.old ++ decimal n) }
-{
-    let mut buffer = Buffer::new();
-    out.push(buffer.format(n).as_bytes())
 }

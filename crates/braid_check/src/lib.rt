@@ -14,7 +14,6 @@
 
 mod check;
 pub mod laws;
-mod number;
 mod reading;
 mod refusal;
 mod report;

@@ -6,7 +6,6 @@ ghost use Rattle.braid_text.specs.Rooms.{which_name};
 ghost use Rattle.braid_check.specs.Accepted.{limit_of};
 ghost use Rattle.braid_check.specs.CheckTexts.{refusal_text};
 
-use crate::number::push_number;
 use crate::taking::REPLICA_LIMITS;
 use braid_ids::{Bytes, Id, Memory};
 use braid_text::{Accept, Which};
@@ -41,9 +40,9 @@ fn range_report(alloc: Global, patch: u32, len: u32) -> Result<Bytes, Memory>
         ++ decimal len ++ codes "\n") }
 {
     let mut line = Bytes::of(alloc, b"fault: OutOfRange patch ")?;
-    push_number(&mut line, patch as u64)?;
+    line.push_number(patch as u64)?;
     line.push(b" len ")?;
-    push_number(&mut line, len as u64)?;
+    line.push_number(len as u64)?;
     line.push(b"\n")?;
     Ok(line)
 }
@@ -56,7 +55,7 @@ fn full_report(alloc: Global, which: Which) -> Result<Bytes, Memory>
     let mut line = Bytes::of(alloc, b"fault: Full ")?;
     line.push(which.name().as_bytes())?;
     line.push(b" ")?;
-    push_number(&mut line, limit_of(which))?;
+    line.push_number(limit_of(which))?;
     line.push(b"\n")?;
     Ok(line)
 }

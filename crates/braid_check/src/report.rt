@@ -5,7 +5,6 @@ ghost use Rattle.braid_text.specs.Histories.{graph_of, text_of};
 ghost use Rattle.braid_text.specs.Digested.{digest_at};
 ghost use Rattle.braid_check.specs.CheckTexts.{text_at_stop, history_text, frontier_text, torn_text, fault_text};
 
-use crate::number::push_number;
 use crate::refusal::refusal_report;
 use crate::stop::Stop;
 use braid_change::Text;
@@ -34,7 +33,7 @@ fn torn_report(alloc: Global, at: u64) -> Result<Bytes, Memory>
     ensures ok { IfOk result (λ text. text ≡ torn_text at) }
 {
     let mut line = Bytes::of(alloc, b"fault: Torn at ")?;
-    push_number(&mut line, at)?;
+    line.push_number(at)?;
     line.push(b"\n")?;
     Ok(line)
 }
@@ -46,7 +45,7 @@ fn fault_report(alloc: Global, fault: &FrameFault) -> Result<Bytes, Memory>
     let mut line = Bytes::of(alloc, b"fault: ")?;
     line.push(fault.reason.name().as_bytes())?;
     line.push(b" at ")?;
-    push_number(&mut line, fault.at)?;
+    line.push_number(fault.at)?;
     line.push(b"\n")?;
     Ok(line)
 }
@@ -59,11 +58,11 @@ fn history_report(alloc: Global, resource: &Resource) -> Result<Bytes, Memory>
     let text = read_text(alloc, resource, &frontier)?;
     let digest = digest_text(alloc, resource)?;
     let mut out = Bytes::of(alloc, b"versions: ")?;
-    push_number(&mut out, resource.entries() as u64)?;
+    out.push_number(resource.entries() as u64)?;
     out.push(b"\nfrontier:")?;
     push_frontier(alloc, &mut out, &frontier)?;
     out.push(b"\nlength: ")?;
-    push_number(&mut out, text.chars().len() as u64)?;
+    out.push_number(text.chars().len() as u64)?;
     out.push(b"\ndigest: ")?;
     out.push(digest.as_bytes())?;
     out.push(b"\ntext:\n")?;

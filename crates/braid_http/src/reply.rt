@@ -8,7 +8,6 @@ ghost use Rattle.braid_http.specs.declared.reply.Reply.TheVariants as replies;
 use crate::looks::Look;
 use braid_change::Text;
 use braid_ids::{Bytes, Frontier, Id, Memory};
-use itoa::Buffer;
 use std::alloc::Global;
 
 /// A reply.
@@ -67,7 +66,7 @@ fn text_bytes(alloc: Global, version: &Frontier, text: &Text) -> Result<Bytes, M
     out.push(
         b"\r\nMerge-Type: ti-text\r\nContent-Type: text/plain; charset=utf-8\r\nContent-Length: ",
     )?;
-    push_number(&mut out, content.get().len())?;
+    out.push_number(content.get().len() as u64)?;
     out.push(b"\r\n\r\n")?;
     out.push(content.get())?;
     Ok(out)
@@ -90,7 +89,7 @@ fn error_bytes(alloc: Global, status: u16, reason: &Bytes, close: bool) -> Resul
     let mut out = Bytes::of(alloc, b"HTTP/1.1 ")?;
     push_status(&mut out, status)?;
     out.push(b"Content-Type: text/plain; charset=utf-8\r\nContent-Length: ")?;
-    push_number(&mut out, reason.get().len() + 1)?;
+    out.push_number(reason.get().len() as u64 + 1)?;
     out.push(b"\r\n")?;
     out.push(close_line(close))?;
     push_reason(&mut out, reason)?;
@@ -116,7 +115,7 @@ fn push_status(out: &mut Bytes, status: u16) -> Result<(), Memory>
     ensures ok { OnOk result (out.new ≡ out.old ++ (decimal status ++ (codes " " ++ (phrase_of status
         ++ (codes "\r\n" ++ flat_map ended (allow_lines status)))))) }
 {
-    push_number(out, usize::from(status))?;
+    out.push_number(status.into())?;
     out.push(b" ")?;
     out.push(phrase(status))?;
     out.push(b"\r\n")?;
@@ -195,14 +194,6 @@ fn gap_before(n: u32) -> &'static [u8]
     ensures value { result.now ≡ if n == 0 then codes " " else codes ", " }
 {
     if n == 0 { b" " } else { b", " }
-}
-
-/// Puts a number in decimal at the end.
-fn push_number(out: &mut Bytes, n: usize) -> Result<(), Memory>
-    ensures ok { OnOk result (out.new ≡ out.old ++ decimal n) }
-{
-    let mut buffer = Buffer::new();
-    out.push(buffer.format(n).as_bytes())
 }
 
 /// A reply with `Connection: close` as the last line of its head.

@@ -1,6 +1,7 @@
-ghost use Rattle.std.specs.Prelude.{◌≡◌, ◌++◌, IfOk, OnOk, OnErr};
+ghost use Rattle.std.specs.Prelude.{◌≡◌, ◌++◌, IfOk, OnOk, OnErr, decimal};
 
 use crate::memory::Memory;
+use itoa::Buffer;
 use std::alloc::Global;
 use std::marker::Model;
 
@@ -38,6 +39,17 @@ impl Bytes {
     {
         self.items.extend_from_slice(more)?;
         Ok(())
+    }
+
+    /// Puts a number at the end, in decimal without leading zeros.
+    ///
+    /// Errors: `Memory` where there was none to grow; the list is then unchanged.
+    pub fn push_number(&mut self, n: u64) -> Result<(), Memory>
+        ensures ok { OnOk result (self.new ≡ self.old ++ decimal n) }
+        ensures err { OnErr result (self.new ≡ self.old) }
+    {
+        let mut buffer = Buffer::new();
+        self.push(buffer.format(n).as_bytes())
     }
 
     /// The bytes, lent as a slice. It takes no memory.

@@ -14,7 +14,6 @@ use crate::state::State;
 use crate::tail::END_MARK;
 use braid_change::{Update, canon};
 use braid_ids::{Bytes, Memory};
-use itoa::Buffer;
 use std::alloc::Global;
 
 /// The text of a state (docs/FORMATS.md), with its updates in their canonical spellings.
@@ -65,8 +64,9 @@ fn push_line(out: &mut Bytes, line: Line, value: &[u8]) -> Result<(), Memory>
 fn push_count(out: &mut Bytes, line: Line, updates: &[Update]) -> Result<(), Memory>
     ensures ok { OnOk result (out.new ≡ out.old ++ (name_of line ++ (decimal (length updates.now) ++ 10 ∷ []))) }
 {
-    let mut buffer = Buffer::new();
-    push_line(out, line, buffer.format(updates.len()).as_bytes())
+    out.push(line.name())?;
+    out.push_number(updates.len() as u64)?;
+    out.push(b"\n")
 }
 
 /// Puts the canonical spellings of updates at the end, in their order.
