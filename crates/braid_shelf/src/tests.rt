@@ -7,48 +7,112 @@ use super::ShelfKind::{
 use super::*;
 use braid_ids::{Bytes, Frontier, Id, Memory};
 use std::alloc::Global;
-use std::test::Fail;
 
-/// Writes an item as a letter for its type and its value.
-fn show_item(alloc: Global, item: &Item, shown: &mut Bytes) -> Result<(), Fail> {
-    match item {
-        Item::Str(text) => {
-            shown.push(b"s:")?;
-            shown.push(text.get())?;
-        }
-        Item::Token(word) => {
-            shown.push(b"t:")?;
-            shown.push(word.get())?;
-        }
-        Item::Int(number) => shown.push(format!(in alloc; "i:{number}")?.as_bytes())?,
-        Item::Bool(flag) => shown.push(if *flag { b"b:1" } else { b"b:0" })?,
-    }
-    Ok(())
+/// Writes a letter for a type, and a value.
+fn show_as(letter: &[u8], value: &[u8], shown: &mut Bytes) -> Result<(), Memory> {
+    shown.push(letter)?;
+    shown.push(value)
 }
 
-/// Writes members one after the other, a `;` before each parameter and a `|` behind each member.
-fn show(alloc: Global, members: &[Member]) -> Result<Bytes, Fail> {
+/// Writes a number behind its letter.
+fn show_number(alloc: Global, number: i64, shown: &mut Bytes) -> Result<(), Memory> {
+    match format!(in alloc; "{number}") {
+        Ok(digits) => show_as(b"i:", digits.as_bytes(), shown),
+        Err(_) => Err(Memory),
+    }
+}
+
+/// Writes an item as a letter for its type and its value.
+fn show_item(alloc: Global, item: &Item, shown: &mut Bytes) -> Result<(), Memory> {
+    match item {
+        Item::Str(text) => show_as(b"s:", text.get(), shown),
+        Item::Token(word) => show_as(b"t:", word.get(), shown),
+        Item::Int(number) => show_number(alloc, *number, shown),
+        Item::Bool(true) => shown.push(b"b:1"),
+        Item::Bool(false) => shown.push(b"b:0"),
+    }
+}
+
+/// Writes an item and its parameters, a `;` before each, and a `|` behind all.
+fn show_member(alloc: Global, member: &Member, shown: &mut Bytes) -> Result<(), Memory> {
+    show_item(alloc, &member.item, shown)?;
+    for param in member.params.get() {
+        show_as(b";", param.key.get(), shown)?;
+        shown.push(b"=")?;
+        show_item(alloc, &param.value, shown)?;
+    }
+    shown.push(b"|")
+}
+
+/// Whether members are written so, one after the other.
+fn are_shown(alloc: Global, members: &[Member], wanted: &[u8]) -> Result<bool, Memory> {
     let mut shown = Bytes::of(alloc, b"")?;
     for member in members {
-        show_item(alloc, &member.item, &mut shown)?;
-        for param in member.params.get() {
-            shown.push(b";")?;
-            shown.push(param.key.get())?;
-            shown.push(b"=")?;
-            show_item(alloc, &param.value, &mut shown)?;
-        }
-        shown.push(b"|")?;
+        show_member(alloc, member, &mut shown)?;
     }
-    Ok(shown)
+    Ok(shown.get() == wanted)
+}
+
+/// Whether a value has these members.
+fn has_members(alloc: Global, value: &[u8], wanted: &[u8]) -> bool {
+    match read_list(alloc, value) {
+        Ok(members) => are_shown(alloc, &members, wanted) == Ok(true),
+        Err(_) => false,
+    }
+}
+
+/// Whether a fault is of this kind at this place.
+fn is_at(found: ShelfFault, at: u64, kind: ShelfKind) -> bool {
+    found == ShelfFault::Bad { at, kind }
 }
 
 /// Whether a value has the fault of this kind at this place.
 fn is_fault(alloc: Global, value: &[u8], at: u64, kind: ShelfKind) -> bool {
-    read_list(alloc, value).err() == Some(ShelfFault::Bad { at, kind })
+    match read_list(alloc, value) {
+        Ok(_) => false,
+        Err(found) => is_at(found, at, kind),
+    }
+}
+
+/// Whether a value has that fault where strings are read.
+fn is_fault_of_strings(alloc: Global, value: &[u8], at: u64, kind: ShelfKind) -> bool {
+    match read_strings(alloc, value) {
+        Ok(_) => false,
+        Err(found) => is_at(found, at, kind),
+    }
+}
+
+/// Whether a value has that fault where a count is read.
+fn is_fault_of_a_count(alloc: Global, value: &[u8], at: u64, kind: ShelfKind) -> bool {
+    match read_count(alloc, value) {
+        Ok(_) => false,
+        Err(found) => is_at(found, at, kind),
+    }
+}
+
+/// Whether strings are these texts.
+fn are_texts(strings: &[Bytes], texts: &[&[u8]]) -> bool {
+    if strings.len() != texts.len() {
+        return false;
+    }
+    for (string, text) in strings.iter().zip(texts) {
+        if string.get() != *text {
+            return false;
+        }
+    }
+    true
+}
+
+/// Whether a value has these strings.
+fn has_strings(alloc: Global, value: &[u8], texts: &[&[u8]]) -> bool {
+    match read_strings(alloc, value) {
+        Ok(strings) => are_texts(&strings, texts),
+        Err(_) => false,
+    }
 }
 
 #[test]
-fn reads_lists_into_their_members(rt: HostRuntime) -> Result<(), Fail> {
+fn reads_lists_into_their_members(rt: HostRuntime) {
     let alloc = rt.alloc();
     let rows = [
         (b"".as_slice(), b"".as_slice()),
@@ -66,9 +130,8 @@ fn reads_lists_into_their_members(rt: HostRuntime) -> Result<(), Fail> {
         (b"a;b=1;b,-5;b", b"t:a;b=b:1|i:-5;b=b:1|"),
     ];
     for (value, members) in rows {
-        assert!(rt; show(alloc, &read_list(alloc, value)?)?.get() == members);
+        assert!(rt; has_members(alloc, value, members));
     }
-    Ok(())
 }
 
 #[test]
@@ -185,15 +248,11 @@ fn names_the_place_where_no_key_begins(rt: HostRuntime) {
 }
 
 #[test]
-fn reads_strings_alone(rt: HostRuntime) -> Result<(), Fail> {
+fn reads_strings_alone(rt: HostRuntime) {
     let alloc = rt.alloc();
-    assert!(rt; read_strings(alloc, b" ")?.is_empty());
-    let strings = read_strings(alloc, b"\"b\" ,\"a\\\\\",\"b\"")?;
-    let texts = [b"b".as_slice(), b"a\\", b"b"];
-    assert_eq!(rt; strings.len(), texts.len());
-    for (string, text) in strings.iter().zip(texts) {
-        assert!(rt; string.get() == text);
-    }
+    assert!(rt; has_strings(alloc, b" ", &[]));
+    let value = b"\"b\" ,\"a\\\\\",\"b\"";
+    assert!(rt; has_strings(alloc, value, &[b"b", b"a\\", b"b"]));
     let rows = [
         (b"a".as_slice(), 0, NotString),
         (b" 1", 1, NotString),
@@ -203,20 +262,21 @@ fn reads_strings_alone(rt: HostRuntime) -> Result<(), Fail> {
         (b"\"a\", 1,", 6, TrailingComma),
     ];
     for (value, at, kind) in rows {
-        assert!(rt; read_strings(alloc, value).err() == Some(ShelfFault::Bad { at, kind }));
+        assert!(rt; is_fault_of_strings(alloc, value, at, kind));
     }
-    Ok(())
 }
 
 #[test]
 fn reads_one_count(rt: HostRuntime) {
     let alloc = rt.alloc();
-    assert_eq!(rt; read_count(alloc, b" 12 "), Ok(12));
-    assert_eq!(rt; read_count(alloc, b"-0"), Ok(0));
-    assert_eq!(rt;
-        read_count(alloc, b"999999999999999"),
-        Ok(999_999_999_999_999)
-    );
+    let counts = [
+        (b" 12 ".as_slice(), 12),
+        (b"-0", 0),
+        (b"999999999999999", 999_999_999_999_999),
+    ];
+    for (value, count) in counts {
+        assert!(rt; read_count(alloc, value) == Ok(count));
+    }
     let rows = [
         (b"".as_slice(), 0, NotCount),
         (b" -5", 0, NotCount),
@@ -227,44 +287,50 @@ fn reads_one_count(rt: HostRuntime) {
         (b"1,", 1, TrailingComma),
     ];
     for (value, at, kind) in rows {
-        assert_eq!(rt; read_count(alloc, value), Err(ShelfFault::Bad { at, kind }));
+        assert!(rt; is_fault_of_a_count(alloc, value, at, kind));
     }
 }
 
 /// The frontier of these names.
-fn frontier_of(alloc: Global, names: &[&[u8]]) -> Result<Frontier, Fail>
+fn frontier_of(alloc: Global, names: &[&[u8]]) -> Option<Frontier>
     requires { length names.now < 100 }
 {
     let mut ids = Vec::new(alloc);
     for name in names {
-        ids.push(Id::read(alloc, name)?)?;
+        ids.push(Id::read(alloc, name).ok()?).ok()?;
     }
-    Ok(Frontier::of(ids)?)
+    Frontier::of(ids).ok()
+}
+
+/// Whether identifiers are written so, and that is read as these strings.
+fn are_written(alloc: Global, names: &[&[u8]], wanted: &[u8], texts: &[&[u8]]) -> Option<bool>
+    requires { length names.now < 100 }
+{
+    let frontier = frontier_of(alloc, names)?;
+    let value = write_strings(alloc, &frontier).ok()?;
+    Some(value.get() == wanted && has_strings(alloc, value.get(), texts))
 }
 
 #[test]
-fn writes_identifiers_in_rising_order(rt: HostRuntime) -> Result<(), Fail> {
+fn writes_identifiers_in_rising_order(rt: HostRuntime) {
     let alloc = rt.alloc();
-    assert!(rt;
-        write_strings(alloc, &frontier_of(alloc, &[])?)?
-            .get()
-            .is_empty()
-    );
-    let frontier = frontier_of(alloc, &[b"b-1", b"a\"\\1", b"a"])?;
-    let value = write_strings(alloc, &frontier)?;
-    assert!(rt; value.get() == b"\"a\", \"a\\\"\\\\1\", \"b-1\"".as_slice());
-    let strings = read_strings(alloc, value.get())?;
-    assert_eq!(rt; strings.len(), 3);
-    assert!(rt; strings[1].get() == b"a\"\\1".as_slice());
-    Ok(())
+    let names: [&[u8]; 3] = [b"b-1", b"a\"\\1", b"a"];
+    let risen: [&[u8]; 3] = [b"a", b"a\"\\1", b"b-1"];
+    let wanted = b"\"a\", \"a\\\"\\\\1\", \"b-1\"";
+    let none = are_written(alloc, &[], b"", &[]);
+    let three = are_written(alloc, &names, wanted, &risen);
+    assert!(rt; none == Some(true) && three == Some(true));
 }
 
-#[test]
-fn makes_lists_of_parameters(rt: HostRuntime) -> Result<(), Fail> {
-    let alloc = rt.alloc();
-    let key = Bytes::of(alloc, b"q")?;
+/// The number of parameters in a list that is made of one.
+fn made_of_one(alloc: Global) -> Option<usize> {
+    let key = Bytes::of(alloc, b"q").ok()?;
     let value = Item::Int(1);
-    let list = ListParam::of(vec![in alloc; Param { key, value }]?);
-    assert_eq!(rt; list.get().len(), 1);
-    Ok(())
+    let params = vec![in alloc; Param { key, value }].ok()?;
+    Some(ListParam::of(params).get().len())
+}
+
+#[test]
+fn makes_lists_of_parameters(rt: HostRuntime) {
+    assert!(rt; made_of_one(rt.alloc()) == Some(1));
 }
