@@ -1,8 +1,23 @@
 use super::*;
-use std::test::Fail;
+
+/// Whether a value is this range.
+fn is_range(value: &[u8], range: (u32, u32)) -> bool {
+    match read_range(value) {
+        Ok(found) => found == range,
+        Err(_) => false,
+    }
+}
+
+/// Whether a value is refused so.
+fn is_refused(value: &[u8], fault: RangeFault) -> bool {
+    match read_range(value) {
+        Ok(_) => false,
+        Err(found) => found == fault,
+    }
+}
 
 #[test]
-fn ranges_are_read(rt: HostRuntime) -> Result<(), Fail> {
+fn ranges_are_read(rt: HostRuntime) {
     let rows: [(&[u8], (u32, u32)); 4] = [
         (b"text [0:1]", (0, 1)),
         (b"text   [12:345]", (12, 345)),
@@ -10,13 +25,12 @@ fn ranges_are_read(rt: HostRuntime) -> Result<(), Fail> {
         (b"text [5:2]", (5, 2)),
     ];
     for (value, range) in rows {
-        assert_eq!(rt; read_range(value), Ok(range));
+        assert!(rt; is_range(value, range));
     }
-    Ok(())
 }
 
 #[test]
-fn other_units_and_large_numbers_are_no_ranges(rt: HostRuntime) -> Result<(), Fail> {
+fn other_units_and_large_numbers_are_no_ranges(rt: HostRuntime) {
     let rows: [(&[u8], RangeFault); 10] = [
         (b"", RangeFault::Unit),
         (b"json [0:1]", RangeFault::Unit),
@@ -30,13 +44,12 @@ fn other_units_and_large_numbers_are_no_ranges(rt: HostRuntime) -> Result<(), Fa
         (b"text [0:99999999999999999999", RangeFault::Number),
     ];
     for (value, fault) in rows {
-        assert_eq!(rt; read_range(value).err(), Some(fault));
+        assert!(rt; is_refused(value, fault));
     }
-    Ok(())
 }
 
 #[test]
-fn values_depart_from_the_form_at_a_place(rt: HostRuntime) -> Result<(), Fail> {
+fn values_depart_from_the_form_at_a_place(rt: HostRuntime) {
     let rows: [(&[u8], u64); 12] = [
         (b"text", 4),
         (b"text ", 5),
@@ -52,7 +65,6 @@ fn values_depart_from_the_form_at_a_place(rt: HostRuntime) -> Result<(), Fail> {
         (b"text [1:2] ", 10),
     ];
     for (value, at) in rows {
-        assert_eq!(rt; read_range(value).err(), Some(RangeFault::Form { at }));
+        assert!(rt; is_refused(value, RangeFault::Form { at }));
     }
-    Ok(())
 }

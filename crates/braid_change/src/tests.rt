@@ -1,73 +1,116 @@
-ghost use Rattle.std.specs.Prelude.{◌<◌, ◌^◌, length, IfOk};
+ghost use Rattle.std.specs.Prelude.{◌<◌, ◌^◌, length, IfSome};
 ghost use Rattle.braid_change.specs.Changes.{patches_of};
 
 use super::*;
 use braid_ids::{Bytes, Frontier, Id};
 use std::alloc::Global;
-use std::test::Fail;
 
 /// The text that is written here.
-fn text_of(alloc: Global, text: &str) -> Result<Text, Fail> {
-    Ok(Text::read(alloc, text.as_bytes())?)
+fn text_of(alloc: Global, text: &str) -> Option<Text> {
+    Text::read(alloc, text.as_bytes()).ok()
+}
+
+/// The patch of a start, an end and a text.
+fn patch_of(alloc: Global, start: u32, end: u32, text: &str) -> Option<Patch> {
+    let text = text_of(alloc, text)?;
+    Some(Patch { start, end, text })
 }
 
 /// The change of these patches: start, end and text of each.
-fn change_of(alloc: Global, rows: &[(u32, u32, &str)]) -> Result<Change, Fail>
+fn change_of(alloc: Global, rows: &[(u32, u32, &str)]) -> Option<Change>
     requires few { length rows.now < 2000 }
-    ensures few { IfOk result (λ change. length (patches_of change) < 2000) }
+    ensures few { IfSome result (λ change. length (patches_of change) < 2000) }
 {
     let mut patches = Vec::new(alloc);
     for (start, end, text) in rows {
-        patches.push(Patch {
-            start: *start,
-            end: *end,
-            text: text_of(alloc, text)?,
-        })?;
+        patches.push(patch_of(alloc, *start, *end, text)?).ok()?;
     }
-    Ok(Change::Patches(ListPatch::of(patches)))
+    Some(Change::Patches(ListPatch::of(patches)))
+}
+
+/// The body that is written here.
+fn body_of(alloc: Global, text: &str) -> Option<Change>
+    ensures few { IfSome result (λ change. length (patches_of change) < 2000) }
+{
+    Some(Change::Body(text_of(alloc, text)?))
 }
 
 /// The frontier of these names.
-fn frontier_of(alloc: Global, names: &[&[u8]]) -> Result<Frontier, Fail>
+fn frontier_of(alloc: Global, names: &[&[u8]]) -> Option<Frontier>
     requires few { length names.now < 100 }
 {
     let mut ids = Vec::new(alloc);
     for name in names {
-        ids.push(Id::read(alloc, name)?)?;
+        ids.push(Id::read(alloc, name).ok()?).ok()?;
     }
-    Ok(Frontier::of(ids)?)
+    Frontier::of(ids).ok()
 }
 
-/// The update of these parts, or why they make none.
+/// What the building of these parts answers.
 fn built(
     alloc: Global,
     name: &[u8],
     parents: &[&[u8]],
-    change: Change,
-) -> Result<Result<Update, BuildFault>, Fail>
+    change: Option<Change>,
+) -> Option<Result<Update, BuildFault>>
     requires few { length parents.now < 100 }
-    requires counted { length (patches_of change) < 2 ^ 32 }
+    requires counted { IfSome change (λ change. length (patches_of change) < 2000) }
 {
-    let id = Id::read(alloc, name)?;
+    let change = change?;
+    let id = Id::read(alloc, name).ok()?;
     let parents = frontier_of(alloc, parents)?;
-    Ok(Update::build(id, parents, change))
+    Some(Update::build(id, parents, change))
 }
 
-/// What patches make of `hello`.
-fn made_of_hello(
+/// The update of these parts.
+fn update_of(
+    alloc: Global,
+    name: &[u8],
+    parents: &[&[u8]],
+    change: Option<Change>,
+) -> Option<Update>
+    requires few { length parents.now < 100 }
+    requires counted { IfSome change (λ change. length (patches_of change) < 2000) }
+{
+    built(alloc, name, parents, change)?.ok()
+}
+
+/// Whether that is an update, or is refused with this fault.
+fn answers(update: Option<Result<Update, BuildFault>>, fault: Option<BuildFault>) -> bool {
+    match update {
+        Some(Ok(_)) => fault.is_none(),
+        Some(Err(found)) => fault == Some(found),
+        None => false,
+    }
+}
+
+/// Whether a text is the one that is written here.
+fn is_text(alloc: Global, text: &Text, want: &str) -> bool {
+    match text_of(alloc, want) {
+        Some(want) => text.same(&want),
+        None => false,
+    }
+}
+
+/// Whether patches make this of `hello`: a text, or a fault.
+fn makes_of_hello(
     alloc: Global,
     rows: &[(u32, u32, &str)],
-) -> Result<Result<Text, SpliceFault>, Fail>
+    want: Result<&str, SpliceFault>,
+) -> Option<bool>
     requires few { length rows.now < 2000 }
 {
-    let hello = Text::of(Vec::from_slice(alloc, &['h', 'e', 'l', 'l', 'o'])?);
-    let update = built(alloc, b"u-1", &[], change_of(alloc, rows)?)??;
-    Ok(splice(alloc, &hello, update.change()))
+    let hello = Text::of(Vec::from_slice(alloc, &['h', 'e', 'l', 'l', 'o']).ok()?);
+    let update = update_of(alloc, b"u-1", &[], change_of(alloc, rows))?;
+    Some(match (splice(alloc, &hello, update.change()), want) {
+        (Ok(made), Ok(want)) => is_text(alloc, &made, want),
+        (Err(found), Err(fault)) => found == fault,
+        _ => false,
+    })
 }
 
 #[test]
-fn patches_replace_ranges(rt: HostRuntime) -> Result<(), Fail> {
-    let alloc = rt.alloc();
+fn patches_replace_ranges(rt: HostRuntime) {
     let rows: [(&[(u32, u32, &str)], &str); 6] = [
         (&[(0, 1, "J"), (5, 5, "!")], "Jello!"),
         (&[(1, 1, "x"), (1, 3, "y")], "hxylo"),
@@ -77,15 +120,13 @@ fn patches_replace_ranges(rt: HostRuntime) -> Result<(), Fail> {
         (&[], "hello"),
     ];
     for (patches, want) in rows {
-        let made = made_of_hello(alloc, patches)??;
-        assert!(rt; made.same(&text_of(alloc, want)?));
+        let made = makes_of_hello(rt.alloc(), patches, Ok(want));
+        assert!(rt; made == Some(true));
     }
-    Ok(())
 }
 
 #[test]
-fn the_first_joined_patch_past_the_end_is_named(rt: HostRuntime) -> Result<(), Fail> {
-    let alloc = rt.alloc();
+fn the_first_joined_patch_past_the_end_is_named(rt: HostRuntime) {
     let rows: [(&[(u32, u32, &str)], u32); 4] = [
         (&[(0, 6, "")], 0),
         (&[(0, 1, ""), (1, 1, ""), (1, 6, "")], 1),
@@ -93,25 +134,42 @@ fn the_first_joined_patch_past_the_end_is_named(rt: HostRuntime) -> Result<(), F
         (&[(6, 6, ""), (6, 7, "")], 0),
     ];
     for (patches, patch) in rows {
-        let made = made_of_hello(alloc, patches)?;
-        assert_eq!(rt; made.err(), Some(SpliceFault::OutOfRange { patch, len: 5 }));
+        let fault = SpliceFault::OutOfRange { patch, len: 5 };
+        let made = makes_of_hello(rt.alloc(), patches, Err(fault));
+        assert!(rt; made == Some(true));
     }
-    Ok(())
+}
+
+/// Whether patches of one start are joined to these.
+fn joins(alloc: Global, rows: &[(u32, u32, &str)], want: &[(u32, u32, &str)]) -> Option<bool>
+    requires few { length rows.now < 2000 }
+    requires few_wanted { length want.now < 2000 }
+{
+    let change = change_of(alloc, rows)?;
+    let want = change_of(alloc, want)?;
+    let list = joined(alloc, change.patches()).ok()?;
+    Some(Change::Patches(ListPatch::of(list)).same(&want))
 }
 
 #[test]
-fn patches_of_one_start_are_joined(rt: HostRuntime) -> Result<(), Fail> {
-    let alloc = rt.alloc();
-    let change = change_of(alloc, &[(1, 1, "x"), (1, 3, "y"), (3, 3, "z"), (4, 4, "")])?;
-    let list = joined(alloc, change.patches())?;
-    let want = change_of(alloc, &[(1, 3, "xy"), (3, 3, "z"), (4, 4, "")])?;
-    assert!(rt; Change::Patches(ListPatch::of(list)).same(&want));
-    Ok(())
+fn patches_of_one_start_are_joined(rt: HostRuntime) {
+    let rows = [(1, 1, "x"), (1, 3, "y"), (3, 3, "z"), (4, 4, "")];
+    let want = [(1, 3, "xy"), (3, 3, "z"), (4, 4, "")];
+    assert!(rt; joins(rt.alloc(), &rows, &want) == Some(true));
+}
+
+/// Whether patches are refused with this fault.
+fn is_fault(alloc: Global, rows: &[(u32, u32, &str)], fault: BuildFault) -> bool
+    requires few { length rows.now < 2000 }
+{
+    answers(
+        built(alloc, b"u-1", &[], change_of(alloc, rows)),
+        Some(fault),
+    )
 }
 
 #[test]
-fn faults_of_patches_name_the_first(rt: HostRuntime) -> Result<(), Fail> {
-    let alloc = rt.alloc();
+fn faults_of_patches_name_the_first(rt: HostRuntime) {
     let rows: [(&[(u32, u32, &str)], BuildFault); 5] = [
         (&[(2, 4, ""), (3, 5, "")], BuildFault::Overlap { patch: 1 }),
         (&[(4, 2, "")], BuildFault::Backwards { patch: 0 }),
@@ -129,86 +187,85 @@ fn faults_of_patches_name_the_first(rt: HostRuntime) -> Result<(), Fail> {
         ),
     ];
     for (patches, fault) in rows {
-        let update = built(alloc, b"u-1", &[], change_of(alloc, patches)?)?;
-        assert_eq!(rt; update.err(), Some(fault));
+        assert!(rt; is_fault(rt.alloc(), patches, fault));
     }
-    Ok(())
-}
-
-#[test]
-fn parents_are_limited_exactly(rt: HostRuntime) -> Result<(), Fail> {
-    let alloc = rt.alloc();
-    for (n, fault) in [(32, None), (33, Some(BuildFault::TooManyParents { n: 33 }))] {
-        let body = Change::Body(text_of(alloc, "")?);
-        let update = Update::build(Id::read(alloc, b"u-1")?, parents_of(alloc, n)?, body);
-        assert_eq!(rt; update.err(), fault);
-    }
-    Ok(())
-}
-
-#[test]
-fn patches_are_limited_exactly(rt: HostRuntime) -> Result<(), Fail> {
-    let alloc = rt.alloc();
-    for (n, fault) in [
-        (1_000, None),
-        (1_001, Some(BuildFault::TooManyPatches { n: 1_001 })),
-    ] {
-        let update = built(alloc, b"u-1", &[], empty_patches(alloc, n)?)?;
-        assert_eq!(rt; update.err(), fault);
-    }
-    Ok(())
-}
-
-#[test]
-fn content_is_limited_exactly(rt: HostRuntime) -> Result<(), Fail> {
-    let alloc = rt.alloc();
-    for (n, fault) in [
-        (1_048_576, None),
-        (1_048_577, Some(BuildFault::TooLong { bytes: 1_048_577 })),
-    ] {
-        let body = Text::of(vec![in alloc; 'a'; n]?);
-        let update = built(alloc, b"u-1", &[], Change::Body(body))?;
-        assert_eq!(rt; update.err(), fault);
-    }
-    Ok(())
 }
 
 /// A frontier of so many names.
-fn parents_of(alloc: Global, n: u8) -> Result<Frontier, Fail>
+fn parents_of(alloc: Global, n: u8) -> Option<Frontier>
     requires few { n < 100 }
 {
     let mut ids = Vec::new(alloc);
     for at in 0..n {
-        ids.push(Id::read(alloc, &[b'0' + at / 10, b'0' + at % 10])?)?;
+        let name = [b'0' + at / 10, b'0' + at % 10];
+        ids.push(Id::read(alloc, &name).ok()?).ok()?;
     }
-    Ok(Frontier::of(ids)?)
+    Frontier::of(ids).ok()
+}
+
+/// What an empty body with so many parents answers.
+fn with_parents(alloc: Global, n: u8) -> Option<Result<Update, BuildFault>>
+    requires few { n < 100 }
+{
+    let id = Id::read(alloc, b"u-1").ok()?;
+    let parents = parents_of(alloc, n)?;
+    let body = text_of(alloc, "")?;
+    Some(Update::build(id, parents, Change::Body(body)))
+}
+
+/// What so many patches that do nothing answer.
+fn with_patches(alloc: Global, n: u32) -> Option<Result<Update, BuildFault>>
+    requires few { n < 2000 }
+{
+    built(alloc, b"u-1", &[], empty_patches(alloc, n))
 }
 
 /// The change of so many patches that do nothing.
-fn empty_patches(alloc: Global, n: u32) -> Result<Change, Fail>
+fn empty_patches(alloc: Global, n: u32) -> Option<Change>
     requires few { n < 2000 }
-    ensures few { IfOk result (λ change. length (patches_of change) < 2000) }
+    ensures few { IfSome result (λ change. length (patches_of change) < 2000) }
 {
     let mut patches = Vec::new(alloc);
     for at in 0..n {
-        patches.push(Patch {
-            start: at,
-            end: at,
-            text: text_of(alloc, "")?,
-        })?;
+        patches.push(patch_of(alloc, at, at, "")?).ok()?;
     }
-    Ok(Change::Patches(ListPatch::of(patches)))
+    Some(Change::Patches(ListPatch::of(patches)))
+}
+
+/// What a body of so many characters of one byte answers.
+fn with_content(alloc: Global, n: usize) -> Option<Result<Update, BuildFault>> {
+    let body = Text::of(vec![in alloc; 'a'; n].ok()?);
+    built(alloc, b"u-1", &[], Some(Change::Body(body)))
+}
+
+#[test]
+fn parents_patches_and_content_are_limited_exactly(rt: HostRuntime) {
+    let alloc = rt.alloc();
+    let parents = BuildFault::TooManyParents { n: 33 };
+    assert!(rt; answers(with_parents(alloc, 32), None));
+    assert!(rt; answers(with_parents(alloc, 33), Some(parents)));
+    let patches = BuildFault::TooManyPatches { n: 1_001 };
+    assert!(rt; answers(with_patches(alloc, 1_000), None));
+    assert!(rt; answers(with_patches(alloc, 1_001), Some(patches)));
+    let content = BuildFault::TooLong { bytes: 1_048_577 };
+    assert!(rt; answers(with_content(alloc, 1_048_576), None));
+    assert!(rt; answers(with_content(alloc, 1_048_577), Some(content)));
 }
 
 /// The body `hi` of `a-1`.
-fn first_update(alloc: Global) -> Result<Update, Fail> {
-    Ok(built(alloc, b"a-1", &[], Change::Body(text_of(alloc, "hi")?))??)
+fn first_update(alloc: Global) -> Option<Update> {
+    update_of(alloc, b"a-1", &[], body_of(alloc, "hi"))
 }
 
 /// Two patches with the parent `a-1`.
-fn second_update(alloc: Global) -> Result<Update, Fail> {
-    let change = change_of(alloc, &[(0, 1, "J"), (5, 5, "!")])?;
-    Ok(built(alloc, b"b-1", &[b"a-1"], change)??)
+fn second_update(alloc: Global) -> Option<Update> {
+    let change = change_of(alloc, &[(0, 1, "J"), (5, 5, "!")]);
+    update_of(alloc, b"b-1", &[b"a-1"], change)
+}
+
+/// A body behind a name and parents that are to be quoted and sorted.
+fn quoted_update(alloc: Global) -> Option<Update> {
+    update_of(alloc, b"q\"\\", &[b"b", b"a", b"c"], body_of(alloc, "é€😀"))
 }
 
 const FIRST_SPELLING: &[u8] =
@@ -220,40 +277,45 @@ const SECOND_SPELLING: &[u8] =
 const QUOTED_SPELLING: &[u8] =
     b"Version: \"q\\\"\\\\\"\r\nParents: \"a\", \"b\", \"c\"\r\nContent-Length: 9\r\n\r\n\xc3\xa9\xe2\x82\xac\xf0\x9f\x98\x80\r\n\r\n";
 
-#[test]
-fn updates_are_spelled_line_by_line(rt: HostRuntime) -> Result<(), Fail> {
-    let alloc = rt.alloc();
-    let spelled = canon(alloc, &first_update(alloc)?)?;
-    assert_eq!(rt; spelled.get().len(), 53);
-    assert!(rt; spelled.get() == FIRST_SPELLING);
-    let spelled = canon(alloc, &second_update(alloc)?)?;
-    assert_eq!(rt; spelled.get().len(), 150);
-    assert!(rt; spelled.get() == SECOND_SPELLING);
-    Ok(())
+/// Whether an update is spelled so, in so many bytes.
+fn is_spelled(alloc: Global, update: Option<Update>, spelling: &[u8], len: usize) -> Option<bool> {
+    let spelled = canon(alloc, &update?).ok()?;
+    Some(spelled.get().len() == len && spelled.get() == spelling)
 }
 
 #[test]
-fn quotes_and_backslashes_are_escaped(rt: HostRuntime) -> Result<(), Fail> {
+fn updates_are_spelled_line_by_line(rt: HostRuntime) {
     let alloc = rt.alloc();
-    let body = Change::Body(text_of(alloc, "é€😀")?);
-    let quoted = built(alloc, b"q\"\\", &[b"b", b"a", b"c"], body)??;
-    let spelled = canon(alloc, &quoted)?;
-    assert!(rt; spelled.get() == QUOTED_SPELLING);
-    Ok(())
+    let first = is_spelled(alloc, first_update(alloc), FIRST_SPELLING, 53);
+    let second = is_spelled(alloc, second_update(alloc), SECOND_SPELLING, 150);
+    let quoted = is_spelled(alloc, quoted_update(alloc), QUOTED_SPELLING, 76);
+    assert!(rt; first == Some(true) && second == Some(true) && quoted == Some(true));
+}
+
+/// Adds an update to a digest.
+fn add(alloc: Global, digester: &mut Digester, update: Option<Update>) -> Option<()> {
+    digester.add(alloc, &update?).ok()
+}
+
+/// Whether the digest of the first so many updates is this one.
+fn is_digest(alloc: Global, n: u32, digest: &[u8; 32]) -> Option<bool> {
+    let mut digester = Digester::new();
+    if n > 0 {
+        add(alloc, &mut digester, first_update(alloc))?;
+    }
+    if n > 1 {
+        add(alloc, &mut digester, second_update(alloc))?;
+    }
+    Some(digester.finish() == *digest)
 }
 
 #[test]
-fn digests_are_those_of_another_tool(rt: HostRuntime) -> Result<(), Fail> {
+fn digests_are_those_of_another_tool(rt: HostRuntime) {
     let alloc = rt.alloc();
-    let mut digester = Digester::new();
-    digester.add(alloc, &first_update(alloc)?)?;
-    assert!(rt; digester.finish() == ONE_UPDATE);
-    let mut digester = Digester::new();
-    digester.add(alloc, &first_update(alloc)?)?;
-    digester.add(alloc, &second_update(alloc)?)?;
-    assert!(rt; digester.finish() == TWO_UPDATES);
-    assert!(rt; Digester::new().finish() == NO_UPDATES);
-    Ok(())
+    let none = is_digest(alloc, 0, &NO_UPDATES);
+    let one = is_digest(alloc, 1, &ONE_UPDATE);
+    let two = is_digest(alloc, 2, &TWO_UPDATES);
+    assert!(rt; none == Some(true) && one == Some(true) && two == Some(true));
 }
 
 // What `sha256sum` prints for no bytes, for the 53 bytes of `a-1`, and for these and the 150 bytes of `b-1`.
@@ -272,10 +334,15 @@ const TWO_UPDATES: [u8; 32] = [
     0xb8, 0x8f, 0x52, 0x1c, 0xf0, 0x95, 0x63, 0x49, 0xd0, 0x87, 0x0c, 0xd7, 0x36, 0x87, 0x07, 0xe7,
 ];
 
-#[test]
-fn changes_are_the_same_as_listed(rt: HostRuntime) -> Result<(), Fail> {
-    let alloc = rt.alloc();
+/// Whether two patches are the same change as this one.
+fn is_same_change(alloc: Global, other: Option<Change>) -> Option<bool> {
     let change = change_of(alloc, &[(1, 1, "x"), (1, 3, "y")])?;
+    Some(change.same(&other?))
+}
+
+#[test]
+fn changes_are_the_same_as_listed(rt: HostRuntime) {
+    let alloc = rt.alloc();
     let rows: [(&[(u32, u32, &str)], bool); 5] = [
         (&[(1, 1, "x"), (1, 3, "y")], true),
         (&[(1, 3, "xy")], false),
@@ -284,45 +351,82 @@ fn changes_are_the_same_as_listed(rt: HostRuntime) -> Result<(), Fail> {
         (&[], false),
     ];
     for (row, same) in rows {
-        assert_eq!(rt; change.same(&change_of(alloc, row)?), same);
+        assert!(rt; is_same_change(alloc, change_of(alloc, row)) == Some(same));
     }
-    assert!(rt; !change.same(&Change::Body(text_of(alloc, "xy")?)));
-    Ok(())
+    assert!(rt; is_same_change(alloc, body_of(alloc, "xy")) == Some(false));
 }
 
 /// An update that replaces the first character.
-fn named(alloc: Global, name: &[u8], parent: &[u8]) -> Result<Update, Fail> {
-    let change = change_of(alloc, &[(0, 1, "x")])?;
-    Ok(built(alloc, name, &[parent], change)??)
+fn named(alloc: Global, name: &[u8], parent: &[u8]) -> Option<Update> {
+    update_of(alloc, name, &[parent], change_of(alloc, &[(0, 1, "x")]))
 }
 
-#[test]
-fn updates_are_the_same_in_all_their_parts(rt: HostRuntime) -> Result<(), Fail> {
-    let alloc = rt.alloc();
+/// Whether an update is the same as the one of this name and this parent.
+fn is_same(alloc: Global, update: &Update, name: &[u8], parent: &[u8]) -> Option<bool> {
+    Some(update.same(&named(alloc, name, parent)?))
+}
+
+/// Whether an update tells its parts, and a copy of it has them.
+fn tells_its_parts(alloc: Global, update: &Update) -> Option<bool> {
+    let copy = update.copy(alloc).ok()?;
+    Some(
+        update.same(&copy)
+            && update.id().bytes() == b"u-1".as_slice()
+            && update.parents().len() == 1,
+    )
+}
+
+/// What is asked of one update.
+fn asks_of_one(alloc: Global) -> Option<[bool; 4]> {
     let update = named(alloc, b"u-1", b"a")?;
-    assert!(rt; update.same(&update.copy(alloc)?));
-    assert!(rt; !update.same(&named(alloc, b"u-2", b"a")?));
-    assert!(rt; !update.same(&named(alloc, b"u-1", b"b")?));
-    assert!(rt; update.id().bytes() == b"u-1".as_slice());
-    assert_eq!(rt; update.parents().len(), 1);
-    Ok(())
+    let parts = tells_its_parts(alloc, &update)?;
+    let same = is_same(alloc, &update, b"u-1", b"a")?;
+    let other = is_same(alloc, &update, b"u-2", b"a")?;
+    let child = is_same(alloc, &update, b"u-1", b"b")?;
+    Some([parts, same, other, child])
 }
 
 #[test]
-fn texts_are_read_from_utf8(rt: HostRuntime) -> Result<(), Fail> {
-    let alloc = rt.alloc();
-    let text = Text::read(alloc, b"a\xc3\xa9\xe2\x82\xac\xf0\x9f\x98\x80")?;
-    assert!(rt; text.chars() == ['a', 'é', '€', '😀'].as_slice());
-    assert_eq!(rt; text.utf8_len(), 10);
-    assert!(rt; text.same(&text.copy(alloc)?));
-    let mut out = Bytes::of(alloc, b"text: ")?;
-    text.push_to(&mut out)?;
-    assert_eq!(rt;
-        out.get(),
-        b"text: a\xc3\xa9\xe2\x82\xac\xf0\x9f\x98\x80".as_slice()
-    );
-    for bytes in [b"\xc3".as_slice(), b"\xff", b"a\xe2\x82", b"\xed\xa0\x80"] {
-        assert_eq!(rt; Text::read(alloc, bytes).err(), Some(TextFault::NotText));
+fn updates_are_the_same_in_all_their_parts(rt: HostRuntime) {
+    let asked = asks_of_one(rt.alloc());
+    assert!(rt; asked == Some([true, true, false, false]));
+}
+
+/// Whether a text of four lengths tells its characters and its bytes.
+fn tells_its_characters(alloc: Global, text: &Text) -> Option<bool> {
+    let copy = text.copy(alloc).ok()?;
+    let chars = text.chars() == ['a', 'é', '€', '😀'].as_slice();
+    Some(chars && text.utf8_len() == 10 && text.same(&copy))
+}
+
+/// Whether a text is put behind other bytes.
+fn is_put(alloc: Global, text: &Text) -> Option<bool> {
+    let mut out = Bytes::of(alloc, b"text: ").ok()?;
+    text.push_to(&mut out).ok()?;
+    Some(out.get() == b"text: a\xc3\xa9\xe2\x82\xac\xf0\x9f\x98\x80".as_slice())
+}
+
+/// What is asked of one text.
+fn asks_of_a_text(alloc: Global) -> Option<[bool; 2]> {
+    let text = Text::read(alloc, b"a\xc3\xa9\xe2\x82\xac\xf0\x9f\x98\x80").ok()?;
+    let tells = tells_its_characters(alloc, &text)?;
+    let put = is_put(alloc, &text)?;
+    Some([tells, put])
+}
+
+/// Whether bytes are no text.
+fn is_no_text(alloc: Global, bytes: &[u8]) -> bool {
+    match Text::read(alloc, bytes) {
+        Ok(_) => false,
+        Err(fault) => fault == TextFault::NotText,
     }
-    Ok(())
+}
+
+#[test]
+fn texts_are_read_from_utf8(rt: HostRuntime) {
+    let alloc = rt.alloc();
+    assert!(rt; asks_of_a_text(alloc) == Some([true, true]));
+    for bytes in [b"\xc3".as_slice(), b"\xff", b"a\xe2\x82", b"\xed\xa0\x80"] {
+        assert!(rt; is_no_text(alloc, bytes));
+    }
 }
