@@ -1,32 +1,39 @@
 use super::*;
 use std::alloc::Global;
-use std::test::Fail;
 
 /// The known fields of field lines, each with its LF.
-pub(crate) fn fields_of(alloc: Global, lines: &[u8]) -> Result<HeadFields, Fail> {
+pub(crate) fn fields_of(alloc: Global, lines: &[u8]) -> Option<HeadFields> {
     let mut fields = HeadFields::new(alloc);
     for line in lines.split_inclusive(|byte| *byte == b'\n') {
-        match read_field(line) {
-            Some((name, value)) => fields.add(alloc, name, value)?,
-            None => return Err("no field line".into()),
-        }
+        let (name, value) = read_field(line)?;
+        fields.add(alloc, name, value).ok()?;
     }
-    Ok(fields)
+    Some(fields)
 }
 
-/// What an answer is: its reason, or nothing where there is a plan.
-pub(crate) fn reason_of<T: Drop>(answer: Result<T, PlanFault>) -> Result<Option<Reason>, Fail> {
+/// Whether that is a plan, or was refused for this reason.
+pub(crate) fn answers(answer: Result<Plan, PlanFault>, reason: Option<Reason>) -> bool {
     match answer {
-        Ok(_) => Ok(None),
-        Err(PlanFault::Reason(reason)) => Ok(Some(reason)),
-        Err(PlanFault::Memory) => Err("no memory".into()),
+        Ok(_) => reason.is_none(),
+        Err(PlanFault::Reason(found)) => reason == Some(found),
+        Err(PlanFault::Memory) => false,
     }
 }
 
-/// The reason against a head of these lines.
-pub(crate) fn head_reason(alloc: Global, lines: &[u8]) -> Result<Option<Reason>, Fail> {
-    let fields = fields_of(alloc, lines)?;
-    reason_of(plan_head(alloc, &fields))
+/// Whether a head of these lines has a plan, or is refused for this reason.
+pub(crate) fn head_answers(alloc: Global, lines: &[u8], reason: Option<Reason>) -> bool {
+    match fields_of(alloc, lines) {
+        Some(fields) => answers(plan_head(alloc, &fields), reason),
+        None => false,
+    }
+}
+
+/// Whether a head of `Version: "a"` and these lines has a plan, or is refused for this reason.
+pub(crate) fn answers_behind(alloc: Global, lines: &str, reason: Option<Reason>) -> bool {
+    match format!(in alloc; "Version: \"a\"\n{lines}") {
+        Ok(head) => head_answers(alloc, head.as_bytes(), reason),
+        Err(_) => false,
+    }
 }
 
 #[test]
@@ -72,62 +79,83 @@ fn a_status_line_has_one_form(rt: HostRuntime) {
         (b"HTTPS: 1\n", false, false),
     ];
     for (line, taken, good) in rows {
-        assert!(rt; is_status(line) == taken);
-        assert!(rt; is_good_status(line) == good);
-        assert!(rt; !is_empty_line(line));
+        let found = [is_status(line), is_good_status(line), is_empty_line(line)];
+        assert!(rt; found == [taken, good, false]);
     }
     assert!(rt; is_empty_line(b"\n") && is_empty_line(b"\r\n"));
 }
 
-#[test]
-fn parents_are_a_set_of_at_most_32(rt: HostRuntime) -> Result<(), Fail> {
-    let alloc = rt.alloc();
-    let mut lines = format!(in alloc; "Version: \"v\"\nContent-Length: 0\n")?;
-    for n in 0u32..32 {
-        lines.push_str(format!(in alloc; "Parents: \"{n}\", \"0\"\n")?.as_str())?;
+/// A head with the parents `0`, `1` and so on, and `0` again with each.
+fn head_of_parents(alloc: Global, count: u32) -> Option<String> {
+    let mut lines = format!(in alloc; "Version: \"v\"\nContent-Length: 0\n").ok()?;
+    for n in 0..count {
+        let line = format!(in alloc; "Parents: \"{n}\", \"0\"\n").ok()?;
+        lines.push_str(line.as_str()).ok()?;
     }
+    Some(lines)
+}
+
+/// Whether so many parents have a plan with them all.
+fn are_planned(alloc: Global, count: u32) -> Option<bool> {
+    let lines = head_of_parents(alloc, count)?;
     let fields = fields_of(alloc, lines.as_bytes())?;
-    assert!(rt; plan_head(alloc, &fields).map(|plan| plan.parents.len()) == Ok(32));
-    lines.push_str("Parents: \"32\"\n")?;
-    assert!(rt; head_reason(alloc, lines.as_bytes())? == Some(Reason::TooManyParents));
-    Ok(())
+    let plan = plan_head(alloc, &fields).ok()?;
+    Some(plan.parents.len() == count)
+}
+
+/// Whether so many parents are refused for this reason.
+fn are_refused(alloc: Global, count: u32, reason: Reason) -> bool {
+    match head_of_parents(alloc, count) {
+        Some(lines) => head_answers(alloc, lines.as_bytes(), Some(reason)),
+        None => false,
+    }
 }
 
 #[test]
-fn an_identifier_has_at_most_128_bytes(rt: HostRuntime) -> Result<(), Fail> {
-    let alloc = rt.alloc();
-    let id = "a".repeat(alloc, 128)?;
+fn parents_are_a_set_of_at_most_32(rt: HostRuntime) {
+    let planned = are_planned(rt.alloc(), 32);
+    let refused = are_refused(rt.alloc(), 33, Reason::TooManyParents);
+    assert!(rt; planned == Some(true) && refused);
+}
+
+/// Whether an identifier of so many bytes has a plan, or is refused for this reason.
+fn id_answers(alloc: Global, len: usize, reason: Option<Reason>) -> Option<bool> {
+    let id = "a".repeat(alloc, len).ok()?;
     let id = id.as_str();
-    let whole = format!(in alloc; "Version: \"{id}\"\nContent-Length: 0\n")?;
-    assert!(rt; head_reason(alloc, whole.as_bytes())?.is_none());
-    let longer = format!(in alloc; "Version: \"{id}b\"\nContent-Length: 0\n")?;
-    assert!(rt; head_reason(alloc, longer.as_bytes())? == Some(Reason::BadId));
-    Ok(())
+    let head = format!(in alloc; "Version: \"{id}\"\nContent-Length: 0\n").ok()?;
+    Some(head_answers(alloc, head.as_bytes(), reason))
 }
 
 #[test]
-fn a_plan_says_what_follows_the_head(rt: HostRuntime) -> Result<(), Fail> {
-    let alloc = rt.alloc();
+fn an_identifier_has_at_most_128_bytes(rt: HostRuntime) {
+    let whole = id_answers(rt.alloc(), 128, None);
+    let longer = id_answers(rt.alloc(), 129, Some(Reason::BadId));
+    assert!(rt; whole == Some(true) && longer == Some(true));
+}
+
+/// Whether a plan names the version `b-1` with two parents, and asks for this.
+fn plans(plan: &Plan, asks: Asks) -> bool {
+    plan.id.bytes() == b"b-1".as_slice() && plan.parents.len() == 2 && plan.asks == asks
+}
+
+/// Whether a head with one range plans one patch.
+fn plans_one_patch(alloc: Global) -> Option<bool> {
     let fields = fields_of(
         alloc,
         b"Version: \"b-1\"\nParents: \"c\", \"a\", \"c\"\nContent-Length: 2\nContent-Range: text [1:3]\n",
     )?;
-    let plan = plan_head(alloc, &fields)?;
-    assert!(rt; plan.id.bytes() == b"b-1".as_slice());
-    assert!(rt; plan.parents.len() == 2);
-    assert!(rt;
-        matches!(
-            plan.asks,
-            Asks::OnePatch {
-                patch: PatchPlan {
-                    start: 1,
-                    end: 3,
-                    len: 2
-                }
-            }
-        )
-    );
-    Ok(())
+    let plan = plan_head(alloc, &fields).ok()?;
+    let patch = PatchPlan {
+        start: 1,
+        end: 3,
+        len: 2,
+    };
+    Some(plans(&plan, Asks::OnePatch { patch }))
+}
+
+#[test]
+fn a_plan_says_what_follows_the_head(rt: HostRuntime) {
+    assert!(rt; plans_one_patch(rt.alloc()) == Some(true));
 }
 
 /// What the forms of servers and paths say of the longest bytes, of one more, of each sign and of none.
@@ -146,9 +174,13 @@ fn are_place_forms(slashes: &[u8], blank: &[u8]) -> [bool; 10] {
     ]
 }
 
+/// What they say of bytes that are all slashes, or begin with a blank.
+fn place_forms(alloc: Global) -> Option<[bool; 10]> {
+    let slashes = vec![in alloc; b'/'; 1_025].ok()?;
+    Some(are_place_forms(&slashes, b" /"))
+}
+
 #[test]
-fn servers_and_paths_have_their_limits(rt: HostRuntime) -> Result<(), Fail> {
-    let slashes = vec![in rt.alloc(); b'/'; 1_025]?;
-    assert_eq!(rt; are_place_forms(&slashes, b" /"), [true; 10]);
-    Ok(())
+fn servers_and_paths_have_their_limits(rt: HostRuntime) {
+    assert!(rt; place_forms(rt.alloc()) == Some([true; 10]));
 }
