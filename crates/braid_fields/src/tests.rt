@@ -85,12 +85,18 @@ fn a_status_line_has_one_form(rt: HostRuntime) {
     assert!(rt; is_empty_line(b"\n") && is_empty_line(b"\r\n"));
 }
 
+/// Puts a field with the parents of this number and `0` at the end.
+fn push_parents(alloc: Global, lines: &mut String, n: u32) -> Option<()> {
+    let line = format!(in alloc; "Parents: \"{n}\", \"0\"\n").ok()?;
+    lines.push_str(line.as_str()).ok()
+}
+
 /// A head with the parents `0`, `1` and so on, and `0` again with each.
 fn head_of_parents(alloc: Global, count: u32) -> Option<String> {
-    let mut lines = format!(in alloc; "Version: \"v\"\nContent-Length: 0\n").ok()?;
+    let mut lines = String::new(alloc);
+    lines.push_str("Version: \"v\"\nContent-Length: 0\n").ok()?;
     for n in 0..count {
-        let line = format!(in alloc; "Parents: \"{n}\", \"0\"\n").ok()?;
-        lines.push_str(line.as_str()).ok()?;
+        push_parents(alloc, &mut lines, n)?;
     }
     Some(lines)
 }
@@ -158,29 +164,32 @@ fn a_plan_says_what_follows_the_head(rt: HostRuntime) {
     assert!(rt; plans_one_patch(rt.alloc()) == Some(true));
 }
 
-/// What the forms of servers and paths say of the longest bytes, of one more, of each sign and of none.
-fn are_place_forms(slashes: &[u8], blank: &[u8]) -> [bool; 10] {
-    [
-        is_path(&slashes[..1_024]),
-        !is_path(slashes),
-        is_path(b"/-._~!$&'()*+,;=:@%/?aZ09"),
-        !is_path(b"/#"),
-        !is_path(b""),
-        is_server(&slashes[..255]),
-        !is_server(&slashes[..256]),
-        !is_server(blank),
-        !is_server(b""),
-        !is_server(b"\x7f"),
-    ]
-}
-
-/// What they say of bytes that are all slashes, or begin with a blank.
-fn place_forms(alloc: Global) -> Option<[bool; 10]> {
-    let slashes = vec![in alloc; b'/'; 1_025].ok()?;
-    Some(are_place_forms(&slashes, b" /"))
+/// Whether so many slashes are a path, and a server.
+fn slashes_are(alloc: Global, n: usize) -> Option<[bool; 2]> {
+    let slashes = vec![in alloc; b'/'; n].ok()?;
+    Some([is_path(&slashes), is_server(&slashes)])
 }
 
 #[test]
 fn servers_and_paths_have_their_limits(rt: HostRuntime) {
-    assert!(rt; place_forms(rt.alloc()) == Some([true; 10]));
+    let longest = [
+        (255, [true, true]),
+        (256, [true, false]),
+        (1_024, [true, false]),
+        (1_025, [false, false]),
+    ];
+    for (n, answers) in longest {
+        assert!(rt; slashes_are(rt.alloc(), n) == Some(answers));
+    }
+    let signs: [(&[u8], [bool; 2]); 5] = [
+        (b"/-._~!$&'()*+,;=:@%/?aZ09", [true, true]),
+        (b"/#", [false, true]),
+        (b"", [false, false]),
+        (b" /", [false, false]),
+        (b"\x7f", [false, false]),
+    ];
+    for (bytes, answers) in signs {
+        let found = [is_path(bytes), is_server(bytes)];
+        assert!(rt; found == answers);
+    }
 }
