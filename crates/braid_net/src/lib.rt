@@ -1,7 +1,8 @@
 //! The outside over the system's sockets, files and threads.
 //!
 //! These are adapters: each is one of the traits of `braid_io` over what the system gives, and keeps that trait's
-//! contract. They are the trusted edge: they tell their counts and no contents, and each was tried once on the real thing.
+//! contract. They are the trusted edge: they tell their counts and no contents, and each was tried once on the real
+//! thing.
 //!
 //! Not promised: that a peer answers, that a connection comes, that what was saved outlasts the machine, or how long a
 //! call takes.

@@ -18,8 +18,8 @@ struct Tower {
 
 /// One of the bells of an opening. A ring of one wakes those who wait at the others.
 ///
-/// A wait lasts until some bell was rung after the last wait of this one, or until two seconds are over. It never ends, so
-/// that one who waits for news tries its connection every two seconds and finds it gone.
+/// A wait lasts until some bell was rung after the last wait of this one, or until two seconds are over. The bell never
+/// ends, so that one who waits for news tries its connection every two seconds and finds it gone.
 #[derive(Drop)]
 pub struct RingBell<R> {
     rt: R,

@@ -10,8 +10,8 @@ use std::net::{Net, TcpStream};
 
 /// A dialer over the system's sockets.
 ///
-/// It tells its counts of faults. An address that is no text, a host that is not found and a server that is not reached are
-/// faults. Hanging up ends the connection. The counts stay at 2^64 - 1 once they are there.
+/// It tells its counts of faults. An address that is no text, a host that is not found and a server that is not reached
+/// are faults. Hanging up ends the connection. The counts stay at 2^64 - 1 once they are there.
 #[derive(Drop)]
 pub struct TcpDialer<R> {
     rt: R,

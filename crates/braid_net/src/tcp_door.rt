@@ -10,10 +10,11 @@ use std::sync::atomic::{AtomicU32, Ordering};
 
 /// One of the doors of an opening. All of them listen at one address.
 ///
-/// It takes one of the shared claims before it waits for a connection, and ends where none is left, so it never waits for
-/// a connection that it may not take. An accept that failed gives its claim back.
+/// It takes one of the shared claims before it waits for a connection, and ends where none is left, so it never waits
+/// for a connection that it may not take. An accept that failed gives its claim back.
 ///
-/// It tells its counts of faults, which stay at 2^64 - 1 once they are there. A link that is put back ends its connection.
+/// It tells its counts of faults, which stay at 2^64 - 1 once they are there. A link that is put back ends its
+/// connection.
 #[derive(Drop)]
 pub struct TcpDoor {
     listener: TcpListener,

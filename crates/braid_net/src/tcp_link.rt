@@ -6,8 +6,8 @@ use std::net::TcpStream;
 
 /// A connection.
 ///
-/// It tells its counts of faults and no contents. Each error of a read or a write is a fault, and so is a write that takes
-/// nothing. The counts stay at 2^64 - 1 once they are there. Dropping it ends the connection.
+/// It tells its counts of faults and no contents. Each error of a read or a write is a fault, and so is a write that
+/// takes nothing. The counts stay at 2^64 - 1 once they are there. Dropping it ends the connection.
 #[derive(Drop)]
 pub struct TcpLink {
     stream: TcpStream,

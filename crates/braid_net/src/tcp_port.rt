@@ -70,7 +70,8 @@ fn pairs_at<R: Net<Listener = TcpListener, Stream = TcpStream> + Wait + Clock + 
     take: u32,
 ) -> io::Result<Vec<(TcpDoor, RingBell<R>)>>
     ensures ok { IfOk result (λ pairs. (length pairs.items ≡ workers) × All (λ p. IsNewPair
-        (untold_doorway p.0.faults p.0.link_read_faults p.0.link_write_faults) (untold_ringing p.1.agains p.1.rings)) pairs.items) }
+        (untold_doorway p.0.faults p.0.link_read_faults p.0.link_write_faults)
+        (untold_ringing p.1.agains p.1.rings)) pairs.items) }
 {
     let Ok(server) = str::from_utf8(server) else {
         return Err(io::Error::from(io::ErrorKind::InvalidInput));
