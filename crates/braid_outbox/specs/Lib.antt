@@ -1,0 +1,6 @@
+pub mod Shapes
+pub mod Replicas
+pub mod Writes
+pub mod Learns
+pub mod Worlds
+pub mod Laws
