@@ -4,3 +4,9 @@ pub mod Fronts
 pub mod Merges
 pub mod Additions
 pub mod Learning
+pub mod Good
+pub mod Sides
+pub mod Steps
+pub mod Caught
+pub mod Landing
+pub mod Public

@@ -15,7 +15,6 @@ use Rattle.braid_text.proofs.Same.{and_true}
 use Rattle.braid_outbox.specs.Replicas.{number, greatest_number}
 use Rattle.braid_outbox.proofs.Shapes.{lt_to, lt_from}
 
-
 drop_name : (a : List ℕ) (ds : List ℕ) → drop (length a + 1) (a ++ 45 ∷ ds) ≡ ds
 drop_name [] ds = refl
 drop_name (x ∷ a) ds = ap (λ (n : ℕ). drop n (x ∷ (a ++ 45 ∷ ds))) (let e : length (x ∷ a) + 1 ≡ suc (length a + 1) = omega arith in e) ∙ drop_name a ds

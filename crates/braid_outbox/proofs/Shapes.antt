@@ -75,8 +75,7 @@ shaped_from c h =
     let a = and_cases (nat_le (length ps) 1000) (are_listed 0 ps && (nat_le (content_len c) 1048576 && (are_numbered ps && are_scalars c))) h in
     let b = and_cases (are_listed 0 ps) (nat_le (content_len c) 1048576 && (are_numbered ps && are_scalars c)) a.1 in
     let d = and_cases (nat_le (content_len c) 1048576) (are_numbered ps && are_scalars c) b.1 in
-    let e = and_cases (are_numbered ps) (are_scalars c) d.1 in
-    (
+    let e = and_cases (are_numbered ps) (are_scalars c) d.1 in (
       record { few = le_from (length ps) 1000 a.0; listed = listed_from 0 ps b.0; short = le_from (content_len c) 1048576 d.0; numbered = numbered_from ps e.0 },
       scalars_from c e.1,
     )
