@@ -18,10 +18,11 @@ use Rattle.braid_text.specs.declared.room.Room.{Room}
 use Rattle.braid_text.proofs.Public.{frontier_log}
 use Rattle.braid_outbox.specs.Shapes.{is_shaped}
 use Rattle.braid_outbox.specs.Replicas.{ReplicaView, IsSound, IsChained, all_of, log_of, frontier, greatest_number}
-use Rattle.braid_outbox.specs.Writes.{next_in, last_id, merges_of, additions, write_needs, is_written, with_unsent, write}
+use Rattle.braid_outbox.specs.Writes.{next_in, last_id, merges_of, merges_needed, last_number, additions, write_needs, is_written, with_unsent, write}
 use Rattle.braid_outbox.proofs.Shapes.{built_from, lt_from}
 use Rattle.braid_outbox.proofs.Names.{IsName}
 use Rattle.braid_outbox.proofs.Fronts.{frontier_rises, newest_in}
+use Rattle.braid_outbox.proofs.Counted.{merges_length}
 use Rattle.braid_outbox.proofs.Merges.{Added, merges_good, next_follows, chained_more, last_split}
 
 -- the log of a replica is its unsent updates above its confirmed ones
@@ -51,7 +52,17 @@ pub record AddsWell (r : ReplicaView) (new : List UpdateView) : Type 0 where
 pub merges_well : (r : ReplicaView) → IsAgent r.agent → IsSound r → greatest_number r.agent (log_of r) + length (merges_of r) < 2 ^ 64 → Added (length (frontier (log_of r))) r.agent (log_of r) r.unsent (merges_of r)
 merges_well r agent sound small = merges_good (length (frontier (log_of r))) r.agent (last_id r.unsent) (log_of r) r.unsent agent sound.legal sound.chained refl (last_in r.confirmed r.unsent sound.legal) small
 
-pub additions_good : (r : ReplicaView) (c : Change) → IsAgent r.agent → IsSound r → is_shaped c ≡ true → IsSome (spliced (text_of (all_of r)) c) → greatest_number r.agent (log_of r) + length (additions r c) < 2 ^ 64 → AddsWell r (additions r c)
+-- there are as many as the width needs
+pub merges_counted : (r : ReplicaView) → IsAgent r.agent → IsSound r → greatest_number r.agent (log_of r) + merges_needed (length (frontier (all_of r))) < 2 ^ 64 → length (merges_of r) ≡ merges_needed (length (frontier (all_of r)))
+merges_counted r agent sound small = merges_length (length (frontier (log_of r))) r.agent (last_id r.unsent) (log_of r) agent sound.legal (last_in r.confirmed r.unsent sound.legal) (omega (arith, small, same)) (omega arith) ∙ ap merges_needed same_width
+  where
+    same_width : length (frontier (log_of r)) ≡ length (frontier (all_of r))
+    same_width = ap length (frontier_log (all_of r))
+
+    same : merges_needed (length (frontier (log_of r))) ≡ merges_needed (length (frontier (all_of r)))
+    same = ap merges_needed same_width
+
+pub additions_good : (r : ReplicaView) (c : Change) → IsAgent r.agent → IsSound r → is_shaped c ≡ true → IsSome (spliced (text_of (all_of r)) c) → last_number r < 2 ^ 64 → AddsWell r (additions r c)
 additions_good r c agent sound shaped fits small = record {
   legal = subst IsLegalLog (sym order) (follows, added.legal);
   chained = subst IsChained (append_assoc r.unsent ms (w ∷ [])) (chained_more (r.unsent ++ ms) w added.chained (λ v e. member_contains (frontier then_log) v (added.newest v e)));
@@ -73,14 +84,14 @@ additions_good r c agent sound shaped fits small = record {
     w : UpdateView
     w = next_in r.agent then_log (frontier then_log) c
 
-    count : length (additions r c) ≡ length ms + 1
-    count = length-append ms (w ∷ [])
+    enough : greatest_number r.agent us + length ms + 1 < 2 ^ 64
+    enough = let n = merges_counted r agent sound (omega (arith, small)) in omega (arith, n, small)
 
     added : Added (length (frontier us)) r.agent us r.unsent ms
-    added = merges_well r agent sound (omega (arith, count, small))
+    added = merges_well r agent sound (omega (arith, enough))
 
     one : 1 + greatest_number r.agent then_log < 2 ^ 64
-    one = let g = added.greatest in omega (arith, g, count, small)
+    one = let g = added.greatest in omega (arith, g, enough)
 
     here : IsSome (spliced (text_in (versions_in us) (frontier us)) c)
     here = subst (λ (F : List (List ℕ)). IsSome (spliced (text_in (versions_in us) F) c)) (sym (frontier_log (all_of r))) fits
@@ -98,15 +109,15 @@ additions_good r c agent sound shaped fits small = record {
 
 -- a write adds what it adds where that leaves all well, or changes nothing
 pub write_cases : (limits : Room) (r : ReplicaView) (c : Change) → IsAgent r.agent → IsSound r → (write limits r c ≡ with_unsent r (additions r c) × AddsWell r (additions r c)) ⊎ (write limits r c ≡ r)
-write_cases limits r c agent sound = go (is_shaped c) (is_some (spliced (text_of (all_of r)) c)) (nat_lt (greatest_number r.agent (log_of r) + length new) (2 ^ 64)) (is_some (first_full (write_needs r c) (room_of limits (all_of r)))) refl refl refl
+write_cases limits r c agent sound = go (is_shaped c) (is_some (spliced (text_of (all_of r)) c)) (nat_lt (last_number r) (2 ^ 64)) (is_some (first_full (write_needs r c) (room_of limits (all_of r)))) refl refl refl
   where
     new : List UpdateView
     new = additions r c
 
-    go : (a b d e : Bool) → is_shaped c ≡ a → is_some (spliced (text_of (all_of r)) c) ≡ b → nat_lt (greatest_number r.agent (log_of r) + length new) (2 ^ 64) ≡ d
+    go : (a b d e : Bool) → is_shaped c ≡ a → is_some (spliced (text_of (all_of r)) c) ≡ b → nat_lt (last_number r) (2 ^ 64) ≡ d
         → (cond (a && (b && (d && not e))) (with_unsent r new) r ≡ with_unsent r new × AddsWell r new) ⊎ (cond (a && (b && (d && not e))) (with_unsent r new) r ≡ r)
     go false b d e f g h = inr refl
     go true false d e f g h = inr refl
     go true true false e f g h = inr refl
     go true true true true f g h = inr refl
-    go true true true false f g h = inl (refl, additions_good r c agent sound f g (lt_from (greatest_number r.agent (log_of r) + length new) (2 ^ 64) h))
+    go true true true false f g h = inl (refl, additions_good r c agent sound f g (lt_from (last_number r) (2 ^ 64) h))

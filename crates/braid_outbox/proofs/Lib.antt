@@ -2,6 +2,7 @@ pub mod Shapes
 pub mod Names
 pub mod Fronts
 pub mod Merges
+pub mod Counted
 pub mod Additions
 pub mod Learning
 pub mod Good

@@ -118,6 +118,14 @@ next_follows a us ps c agent small inside rising built fits = record {
     fresh : Has us (agent_name a (1 + greatest_number a us)) → ⊥
     fresh (w, m, e) = next_new a us w small m e
 
+-- a pure merge of the last unsent update and others may follow
+pub merge_follows : (a : List ℕ) (last : Option (List ℕ)) (us : List UpdateView) → IsAgent a → ((v : List ℕ) → last ≡ Some v → Member v (frontier us)) → 1 + greatest_number a us < 2 ^ 64
+    → Follows us (next_in a us (merge_parents last (frontier us)) (Patches []))
+merge_follows a last us agent there small = next_follows a us (merge_parents last F) (Patches []) agent small (merge_in last F there) (merge_rises last F) (built_from (merge_parents last F) (Patches []) (merge_few last F) refl) refl
+  where
+    F : List (List ℕ)
+    F = frontier us
+
 pub merges_good : (n : ℕ) (a : List ℕ) (last : Option (List ℕ)) (us os : List UpdateView) → IsAgent a → IsLegalLog us → IsChained os → last ≡ last_id os → ((v : List ℕ) → last ≡ Some v → Member v (frontier us))
     → greatest_number a us + length (merges_in n a last us) < 2 ^ 64 → Added n a us os (merges_in n a last us)
 merges_good zero a last us os agent legal chained e there small = none_added zero a us os (λ h. h) legal chained (λ v f. there v (e ∙ f))
@@ -133,7 +141,7 @@ merges_good (suc n) a last us os agent legal chained e there small = go (nat_le 
     more = merges_in n a (Some m.id) (m ∷ us)
 
     follows : 1 + greatest_number a us < 2 ^ 64 → Follows us m
-    follows s = next_follows a us (merge_parents last F) (Patches []) agent s (merge_in last F there) (merge_rises last F) (built_from (merge_parents last F) (Patches []) (merge_few last F) refl) refl
+    follows s = merge_follows a last us agent there s
 
     chain : IsChained (os ++ m ∷ [])
     chain = chained_more os m chained (λ v f. member_contains (merge_parents last F) v (subst (λ (o : Option (List ℕ)). Member v (merge_parents o F)) (sym (e ∙ f)) (merge_names v F)))

@@ -4,3 +4,5 @@ pub mod Writes
 pub mod Learns
 pub mod Worlds
 pub mod Laws
+pub mod Kept
+pub mod Standings

@@ -57,6 +57,10 @@ abbrev pub greatest_number : List ℕ → List UpdateView → ℕ
 greatest_number a [] = 0
 greatest_number a (u ∷ us) = max (unwrap_or (number a u.id) 0) (greatest_number a us)
 
+-- the limits of a replica but for the width, and this limit of the width
+abbrev pub limits_with : ℕ → Room
+limits_with width = record { versions = 524288; elements = 33554432; deletions = 67108864; width = width }
+
 -- the limits of a replica
 abbrev pub replica_limits : Room
-replica_limits = record { versions = 524288; elements = 33554432; deletions = 67108864; width = 2000 }
+replica_limits = limits_with 2000

@@ -1,5 +1,5 @@
 -- What a write adds to a replica, and why it adds nothing. Lists of updates stand newest first where a name ends in `in`.
-use Rattle.std.specs.Prelude.{◌≡◌, ℕ, zero, suc, ◌+◌, ◌^◌, ◌≤◌, nat_le, nat_lt, List, [], ◌∷◌, ◌++◌, length, take, filter, reverse, Bool, true, not, ◌&&◌, if◌then◌else◌, Option, Some, None, is_some, IsSome}
+use Rattle.std.specs.Prelude.{◌≡◌, ℕ, zero, suc, ◌+◌, ◌-◌, ◌/◌, ◌^◌, ◌<◌, ◌≤◌, nat_le, nat_lt, List, [], ◌∷◌, ◌++◌, length, take, filter, reverse, Bool, true, not, ◌&&◌, if◌then◌else◌, Option, Some, None, is_some, IsSome}
 use Rattle.std.specs.Ordering.{is_eq}
 use Rattle.braid_ids.specs.Identifiers.{id_cmp}
 use Rattle.braid_ids.specs.Frontiers.{rising_ids}
@@ -54,18 +54,30 @@ additions r c =
     let us = reverse (merges_of r) ++ log_of r in
     merges_of r ++ next_in r.agent us (frontier us) c ∷ []
 
+-- how many pure merges a frontier of this many members needs before it has at most 32: each takes 32 of them and leaves one
+abbrev pub merges_needed : ℕ → ℕ
+merges_needed width = (width - 2) / 31
+
+-- how many updates a write adds, and how many numbers it takes: the pure merges, and one
+abbrev pub updates_needed : ReplicaView → ℕ
+updates_needed r = 1 + merges_needed (length (frontier (all_of r)))
+
+-- the greatest number that the agent has after a write
+abbrev pub last_number : ReplicaView → ℕ
+last_number r = greatest_number r.agent (log_of r) + updates_needed r
+
 -- what a write needs: its updates as versions, the elements and deletions of the change at the whole frontier, and the one identifier that it leaves in the frontier
 abbrev pub write_needs : ReplicaView → Change → Room
 write_needs r c =
     let need = needs_of (all_of r) (next_in r.agent (log_of r) (frontier (all_of r)) c) in
-    record { versions = length (additions r c); elements = need.elements; deletions = need.deletions; width = 1 }
+    record { versions = updates_needed r; elements = need.elements; deletions = need.deletions; width = 1 }
 
 -- whether a change is written: it has its shape, it has a splice on the replica's text, the numbers suffice, and there is room
 abbrev pub is_written : Room → ReplicaView → Change → Bool
 is_written limits r c =
     is_shaped c
     && (is_some (spliced (text_of (all_of r)) c)
-    && (nat_lt (greatest_number r.agent (log_of r) + length (additions r c)) (2 ^ 64)
+    && (nat_lt (last_number r) (2 ^ 64)
     && not (is_some (first_full (write_needs r c) (room_of limits (all_of r))))))
 
 -- the replica with more unsent updates
@@ -94,10 +106,9 @@ IsWriteFault limits r c (Shape fault) = IsBuildFault [] c fault
 IsWriteFault limits r c (OutOfRange patch len) =
     IsShaped c × (first_past (text_of (all_of r)) c ≡ Some patch) × (len ≡ length (text_of (all_of r)))
 IsWriteFault limits r c NumbersSpent =
-    Fits r c × (2 ^ 64 ≤ greatest_number r.agent (log_of r) + length (additions r c))
+    Fits r c × (2 ^ 64 ≤ last_number r)
 IsWriteFault limits r c (Full which limit) =
-    Fits r c × (1 + (greatest_number r.agent (log_of r) + length (additions r c)) ≤ 2 ^ 64)
-    × ((n : ℕ) × (left : ℕ) × IsOver (write_needs r c) (room_of limits (all_of r)) which n left) × (limit ≡ limit_of limits which)
+    Fits r c × (last_number r < 2 ^ 64) × ((n : ℕ) × (left : ℕ) × IsOver (write_needs r c) (room_of limits (all_of r)) which n left) × (limit ≡ limit_of limits which)
 IsWriteFault limits r c Memory = Unit {0}
 
 -- some pure merges were added, and nothing else

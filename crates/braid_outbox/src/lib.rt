@@ -5,6 +5,8 @@ mod faults;
 pub mod laws;
 mod learn;
 mod lists;
+mod order;
+mod standing;
 mod world;
 
 pub use faults::{BadReplica, WriteFault};
