@@ -11,3 +11,6 @@ pub mod Steps
 pub mod Caught
 pub mod Landing
 pub mod Public
+pub mod Picked
+pub mod Marking
+pub mod Keeping

@@ -1,0 +1,102 @@
+ghost use Rattle.std.specs.Prelude.{◌≡◌, ◌≢◌, ◌↔◌, ◌≤◌, ◌<◌, ◌++◌, ◌∷◌, [], ℕ, List, Some, IfOk, IfSome, IsTrue, Contains, length, drop, reverse, slice_get};
+ghost use Rattle.std.specs.Option.{option_copied};
+ghost use Rattle.braid_graph.specs.Entries.{Holds, HoldsAll};
+ghost use Rattle.braid_graph.specs.Frontiers.{IsFrontierOf};
+ghost use Rattle.braid_text.specs.Histories.{graph_of, text_of};
+ghost use Rattle.braid_text.specs.Answers.{answer_to, room_of, first_missing};
+ghost use Rattle.braid_text.specs.Digested.{digest_at};
+ghost use Rattle.braid_text.specs.declared.accept.Accept.TheVariants.{New, Memory as NoMemory};
+ghost use Rattle.braid_outbox.specs.Replicas.{IsSound, all_of, limits_with};
+ghost use Rattle.braid_outbox.specs.Writes.{last_id, with_unsent};
+ghost use Rattle.braid_outbox.specs.Learns.{confirm, has_first, acked};
+ghost use Rattle.braid_outbox.specs.Standings.{Stands};
+
+use crate::order::Order;
+use crate::standing::Standing;
+use braid_change::{Text, Update};
+use braid_ids::{Agent, Frontier, Id, Memory};
+use braid_text::{Accept, Resource, Room};
+use std::alloc::Global;
+use std::marker::Model;
+
+const MOST_VERSIONS: u64 = 524_288;
+
+const MOST_ELEMENTS: u64 = 33_554_432;
+
+const MOST_DELETIONS: u64 = 67_108_864;
+
+/// A replica of one text: an agent, the updates that are known to be taken, and the agent's own that are not yet.
+///
+/// All updates are a legal history, the confirmed ones before the unsent ones, and each unsent one after the first
+/// names the one before it among its parents.
+#[derive(Drop)]
+pub struct Replica {
+    pub(crate) agent: Agent,
+    /// All updates, in the order in which they came.
+    pub(crate) resource: Resource,
+    /// Their arrival numbers, in the order of the two lists.
+    pub(crate) order: Order,
+}
+
+impl Model for Replica {
+    ghost use Rattle.braid_outbox.specs.Replicas.{ReplicaView};
+    ghost use Rattle.braid_outbox.specs.Kept.{IsKept, replica_in};
+
+    ghost Value = { ReplicaView };
+
+    ghost view = { λ r. replica_in r.agent r.resource r.order.numbers.items r.order.confirmed };
+
+    ghost invariant = { λ r. IsKept r.agent r.resource r.order.numbers.items r.order.confirmed r.order.flags.items };
+}
+
+impl Replica {
+    /// The replica of an agent that has no updates. It takes no memory.
+    pub fn new(alloc: Global, agent: Agent) -> Replica
+        ensures none { result ≡ record { agent = agent; confirmed = []; unsent = [] } }
+    {
+        Replica {
+            agent,
+            resource: Resource::new(alloc),
+            order: Order::new(alloc),
+        }
+    }
+
+    /// The agent. It takes no memory.
+    pub fn agent(&self) -> &Agent
+        ensures agent { result.now ≡ self.now.agent }
+    {
+        &self.agent
+    }
+
+    /// How many updates are confirmed. It takes no memory.
+    pub fn confirmed(&self) -> u32
+        ensures count { result ≡ length self.now.confirmed }
+        ensures sound { IsSound self.now }
+    {
+        self.order.confirmed
+    }
+
+    /// How many updates are unsent. It takes no memory.
+    pub fn unsent(&self) -> u32
+        ensures count { result ≡ length self.now.unsent }
+    {
+        self.order.numbers.len() as u32 - self.order.confirmed
+    }
+
+    /// The update with this number, counted from 0 through the confirmed and then the unsent ones. It takes no memory.
+    pub fn entry(&self, n: u32) -> Option<&Update>
+        ensures value { option_copied result ≡ slice_get (all_of self.now) n }
+    {
+        let Some(number) = self.order.numbers.get(n as usize) else {
+            return None;
+        };
+        self.resource.entry(*number)
+    }
+
+    /// The first unsent update, which is the next to be sent. It takes no memory.
+    pub fn next_out(&self) -> Option<&Update>
+        ensures value { option_copied result ≡ slice_get self.now.unsent 0 }
+    {
+        self.entry(self.order.confirmed)
+    }
+}
