@@ -75,7 +75,7 @@ module _ (agent : List ℕ) (H : List UpdateView) (ns : List ℕ) (c : ℕ) (fla
   abbrev O : List UpdateView
   O = picked H (drop c ns)
 
-  within : AreWithin H ns
+  pub within : AreWithin H ns
   within n m = k.within n (member_contains ns n m)
 
   within_front : AreWithin H (take c ns)

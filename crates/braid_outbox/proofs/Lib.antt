@@ -14,3 +14,4 @@ pub mod Public
 pub mod Picked
 pub mod Marking
 pub mod Keeping
+pub mod Calls

@@ -1,5 +1,6 @@
 ghost use Rattle.std.specs.Prelude.{◌≡◌, ◌≢◌, ◌↔◌, ◌≤◌, ◌<◌, ◌++◌, ◌∷◌, [], ℕ, List, Some, IfOk, IfSome, IsTrue, Contains, length, drop, reverse, slice_get};
 ghost use Rattle.std.specs.Option.{option_copied};
+ghost use Rattle.braid_ids.specs.Frontiers.{IsRising};
 ghost use Rattle.braid_graph.specs.Entries.{Holds, HoldsAll};
 ghost use Rattle.braid_graph.specs.Frontiers.{IsFrontierOf};
 ghost use Rattle.braid_text.specs.Histories.{graph_of, text_of};
@@ -99,4 +100,89 @@ impl Replica {
     {
         self.entry(self.order.confirmed)
     }
+
+    /// What there is room for beside all updates, within the limits of a replica and with this width.
+    pub(crate) fn room(&self, width: u64) -> Room
+        ensures room { result ≡ room_of (limits_with width) (all_of self.now) }
+    {
+        Room {
+            versions: MOST_VERSIONS - self.resource.entries() as u64,
+            elements: MOST_ELEMENTS - self.resource.elements() as u64,
+            deletions: MOST_DELETIONS - self.resource.deletions() as u64,
+            width,
+        }
+    }
+
+    /// Takes an update to the end of the confirmed ones, or says why not. Its parents are confirmed.
+    pub(crate) fn add_confirmed(&mut self, alloc: Global, update: Update, width: u64) -> Accept
+        requires parents { HoldsAll (graph_of self.old.confirmed) update.parents }
+        ensures answer { result ≢ NoMemory → result ≡ answer_to (room_of (limits_with width) (all_of self.old)) (all_of self.old) update }
+        ensures taken { result ≡ New → self.new ≡ record { agent = self.old.agent; confirmed = self.old.confirmed ++ update ∷ []; unsent = self.old.unsent } }
+        ensures kept { result ≢ New → self.new ≡ self.old }
+    {
+        read_parents(&update);
+        let room = self.room(width);
+        let Ok(()) = self.order.reserve() else {
+            return Accept::Memory;
+        };
+        match self.resource.accept(alloc, update, &room) {
+            Accept::New => {
+                self.order.add_confirmed();
+                Accept::New
+            }
+            refusal => refusal,
+        }
+    }
+
+    /// Takes an update to the end of the unsent ones, or says why not. It names the last unsent one, where there is one.
+    pub(crate) fn add_unsent(&mut self, alloc: Global, update: Update, width: u64) -> Accept
+        requires chained { (v : List ℕ) → last_id self.old.unsent ≡ Some v → Contains update.parents v }
+        ensures answer { result ≢ NoMemory → result ≡ answer_to (room_of (limits_with width) (all_of self.old)) (all_of self.old) update }
+        ensures taken { result ≡ New → self.new ≡ with_unsent self.old (update ∷ []) }
+        ensures kept { result ≢ New → self.new ≡ self.old }
+    {
+        read_parents(&update);
+        let room = self.room(width);
+        let Ok(()) = self.order.reserve() else {
+            return Accept::Memory;
+        };
+        match self.resource.accept(alloc, update, &room) {
+            Accept::New => {
+                self.order.add_unsent();
+                Accept::New
+            }
+            refusal => refusal,
+        }
+    }
+
+    /// Confirms the first unsent update. There is one. It takes no memory.
+    pub(crate) fn confirm_first(&mut self)
+        requires some { 0 < length self.old.unsent }
+        ensures moved { self.new ≡ confirm self.old self.old.unsent }
+    {
+        self.order.confirm_first();
+    }
+
+    /// Confirms the first unsent update where it has this identifier, and says whether it has. It takes no memory: an
+    /// update's place was made when it came.
+    pub fn acked(&mut self, id: &Id) -> bool
+        ensures moved { self.new ≡ acked id.now self.old }
+        ensures told { result ≡ has_first id.now self.old.unsent }
+    {
+        let Some(first) = self.next_out() else {
+            return false;
+        };
+        if first.id() != id {
+            return false;
+        }
+        self.confirm_first();
+        true
+    }
+}
+
+/// Each update's parents rise: a proof learns it where they are read.
+fn read_parents(update: &Update)
+    ensures rising { IsRising update.now.parents }
+{
+    let _len = update.parents().len();
 }
