@@ -18,7 +18,7 @@ use Rattle.braid_outbox.specs.declared.world.Side.{Side}
 use Rattle.braid_outbox.specs.Replicas.{frontier}
 use Rattle.braid_outbox.specs.Laws.{IsAtEnd, IsPart}
 use Rattle.braid_outbox.proofs.Additions.{log_parts}
-use Rattle.braid_outbox.proofs.Learning.{to_log, of_log}
+use Rattle.braid_outbox.proofs.Moves.{to_log, of_log}
 use Rattle.braid_outbox.proofs.Good.{IsReadTo, GoodSide, one_of}
 
 -- what an update is: sent, or in the ancestry

@@ -17,7 +17,7 @@ use Rattle.braid_outbox.specs.Replicas.{IsSound}
 use Rattle.braid_outbox.specs.Worlds.{replica_of, kept_of}
 use Rattle.braid_outbox.specs.Laws.{AreDifferent}
 use Rattle.braid_outbox.proofs.Names.{IsName}
-use Rattle.braid_outbox.proofs.Learning.{to_log}
+use Rattle.braid_outbox.proofs.Moves.{to_log}
 
 -- all updates of a side's replica
 abbrev pub side_all : Side → List UpdateView

@@ -29,7 +29,7 @@ use Rattle.braid_outbox.specs.Learns.{confirm}
 use Rattle.braid_outbox.specs.Kept.{with_found, picked, replica_in, IsKept}
 use Rattle.braid_outbox.proofs.Merges.{chained_more}
 use Rattle.braid_outbox.proofs.Additions.{log_parts, log_more}
-use Rattle.braid_outbox.proofs.Learning.{confirms, to_log, of_log}
+use Rattle.braid_outbox.proofs.Moves.{confirms, to_log, of_log}
 use Rattle.braid_outbox.proofs.Marking.{marked_more, marked_same, marked_set}
 use Rattle.braid_outbox.proofs.Picked.{AreWithin, picked_parts, picked-append, picked_longer, picked_last, picked_length, picked_number, number_picked, picked_at}
 

@@ -26,7 +26,7 @@ use Rattle.braid_outbox.specs.Worlds.{replica_of, land_answer}
 use Rattle.braid_outbox.specs.Laws.{IsTaken, IsLearnt, CarriesWell}
 use Rattle.braid_outbox.proofs.Names.{IsName}
 use Rattle.braid_outbox.proofs.Additions.{log_parts, log_more}
-use Rattle.braid_outbox.proofs.Learning.{to_log, of_log, over_full, IsFull}
+use Rattle.braid_outbox.proofs.Moves.{to_log, of_log, over_full, IsFull}
 use Rattle.braid_outbox.proofs.Good.{kept_all, IsReadTo, GoodSide, GoodPut, one_of, same_as}
 use Rattle.braid_outbox.proofs.Sides.{get_member}
 use Rattle.braid_outbox.proofs.Caught.{confirmed_legal, ancestry_confirmed}

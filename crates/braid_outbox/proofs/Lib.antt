@@ -4,7 +4,7 @@ pub mod Fronts
 pub mod Merges
 pub mod Counted
 pub mod Additions
-pub mod Learning
+pub mod Moves
 pub mod Good
 pub mod Sides
 pub mod Steps
@@ -15,3 +15,6 @@ pub mod Picked
 pub mod Marking
 pub mod Keeping
 pub mod Calls
+pub mod Learned
+pub mod Found
+pub mod ReadNow

@@ -23,7 +23,7 @@ use Rattle.braid_outbox.specs.Learns.{acked, learn}
 use Rattle.braid_outbox.specs.Worlds.{replica_of, kept_of, land_answer}
 use Rattle.braid_outbox.specs.Laws.{AreAgents, reached, IsClosed, IsPart, Keeps, IsAtEnd, IsTaken, CarriesWell, LosesNone}
 use Rattle.braid_outbox.proofs.Additions.{log_parts, write_cases}
-use Rattle.braid_outbox.proofs.Learning.{Moves, learn_moves, acked_cases, to_log, of_log}
+use Rattle.braid_outbox.proofs.Moves.{Moves, learn_moves, acked_cases, to_log, of_log}
 use Rattle.braid_outbox.proofs.Good.{GoodSide, GoodWorld}
 use Rattle.braid_outbox.proofs.Steps.{run_good, start_good}
 use Rattle.braid_outbox.proofs.Caught.{at_end, below_frontier}

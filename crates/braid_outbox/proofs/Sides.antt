@@ -23,7 +23,7 @@ use Rattle.braid_outbox.specs.Laws.{AreDifferent}
 use Rattle.braid_outbox.proofs.Names.{IsName}
 use Rattle.braid_outbox.proofs.Fronts.{frontier_cases}
 use Rattle.braid_outbox.proofs.Additions.{AddsWell, write_cases}
-use Rattle.braid_outbox.proofs.Learning.{Moves, Learns, learn_moves, acked_cases, to_log}
+use Rattle.braid_outbox.proofs.Moves.{Moves, Learns, learn_moves, acked_cases, to_log}
 use Rattle.braid_outbox.proofs.Good.{kept_all, IsReadTo, GoodSide, GoodPut, GoodWorld, agent_of, same_as}
 
 -- what an event at a side leaves of it

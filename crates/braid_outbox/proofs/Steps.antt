@@ -35,7 +35,7 @@ use Rattle.braid_outbox.specs.Laws.{AreDifferent}
 use Rattle.braid_outbox.proofs.Shapes.{update_from}
 use Rattle.braid_outbox.proofs.Names.{IsName, one_agent, name_numbered}
 use Rattle.braid_outbox.proofs.Additions.{log_parts, log_more}
-use Rattle.braid_outbox.proofs.Learning.{to_log, of_log, refusal_cases, IsRefused}
+use Rattle.braid_outbox.proofs.Moves.{to_log, of_log, refusal_cases, IsRefused}
 use Rattle.braid_outbox.proofs.Good.{side_all, kept_all, IsReadTo, GoodSide, GoodPut, GoodWorld, agent_of, one_side, one_of}
 use Rattle.braid_outbox.proofs.Sides.{at_side_good, write_side, open_side, cut_side, keep_side, back_side, carry_side, ack_side, get_member, update_in}
 

@@ -20,11 +20,13 @@ use braid_text::{Accept, Resource, Room};
 use std::alloc::Global;
 use std::marker::Model;
 
-const MOST_VERSIONS: u64 = 524_288;
+pub const MOST_VERSIONS: u64 = 524_288;
 
-const MOST_ELEMENTS: u64 = 33_554_432;
+pub const MOST_ELEMENTS: u64 = 33_554_432;
 
-const MOST_DELETIONS: u64 = 67_108_864;
+pub const MOST_DELETIONS: u64 = 67_108_864;
+
+pub const MOST_WIDE: u64 = 2_000;
 
 /// A replica of one text: an agent, the updates that are known to be taken, and the agent's own that are not yet.
 ///
@@ -73,6 +75,7 @@ impl Replica {
     pub fn confirmed(&self) -> u32
         ensures count { result ≡ length self.now.confirmed }
         ensures sound { IsSound self.now }
+        ensures few { length (all_of self.now) ≤ 524288 }
     {
         self.order.confirmed
     }

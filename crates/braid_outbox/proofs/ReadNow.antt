@@ -1,0 +1,106 @@
+-- What is read of a replica, and where it resumes.
+use Rattle.std.proofs.Common.{◌≡◌, ◌↔◌, ℕ, ◌<◌, ◌≤◌, ◌+◌, List, Bool, [], ◌∷◌, ◌++◌, refl, sym, ap, subst, ◌∙◌, inl, inr, arith, length, map, take, drop, reverse, Option, None, Some, zero, suc, length-append, length-take}
+use Rattle.std.proofs.lemmas.List.{take_all, length-map, map-append}
+use Rattle.std.specs.List.{Contains, slice_get}
+use Rattle.std.specs.declared.result.Result.{Result}
+use Rattle.std.specs.declared.result.Result.TheVariants.{Ok, Err}
+use Rattle.std.specs.Result.{IfOk}
+use Rattle.braid_ids.specs.Frontiers.{IsRising}
+use Rattle.braid_ids.proofs.Members.{slice_get-append_left}
+use Rattle.braid_change.specs.Updates.{UpdateView}
+use Rattle.braid_graph.specs.Entries.{GraphEntry, Holds, HoldsAll, IsHistoryGraph}
+use Rattle.braid_graph.specs.Frontiers.{IsFrontierOf, frontier_of}
+use Rattle.braid_graph.proofs.Frontiers.{one_frontier}
+use Rattle.braid_graph.proofs.Kept.{take_next}
+use Rattle.braid_tree.specs.Trees.{Member}
+use Rattle.braid_rebase.proofs.Members.{contains_member, member_contains}
+use Rattle.braid_text.specs.Histories.{entry_of, graph_of, IsLegal, IsLegalLog, SameGraph, text_at, text_of}
+use Rattle.braid_text.specs.Digested.{digest_at}
+use Rattle.braid_text.proofs.Digests.{same_digest}
+use Rattle.braid_text.proofs.Logs.{legal_back}
+use Rattle.braid_text.proofs.Public.{same_text_at}
+use Rattle.braid_text.proofs.Ties.{legal_graph}
+use Rattle.braid_outbox.specs.Replicas.{ReplicaView, IsSound, all_of, frontier, resume_of}
+use Rattle.braid_outbox.specs.Kept.{replica_in, IsKept}
+use Rattle.braid_outbox.proofs.Additions.{log_parts}
+use Rattle.braid_outbox.proofs.Fronts.{frontier_rises, take_rises, same_rising}
+use Rattle.braid_outbox.proofs.Keeping.{alike, all_is, same_graph, within}
+use Rattle.braid_outbox.proofs.Picked.{picked_length}
+
+pub if_ok : {A E : Type 0} (P Q : A → Type 0) (r : Result A E) → ((x : A) → P x → Q x) → IfOk r P → IfOk r Q
+if_ok P Q (Ok x) h p = h x p
+if_ok P Q (Err x) h p = p
+
+module _ (agent : List ℕ) (H : List UpdateView) (ns : List ℕ) (c : ℕ) (flags : List Bool) (k : IsKept agent H ns c flags) (q : ReplicaView) (e : replica_in agent H ns c ≡ q) where
+  pub few_now : length (all_of q) ≤ 524288
+  few_now = subst (λ (r : ReplicaView). length (all_of r) ≤ 524288) e (let a = ap length (all_is agent H ns c flags k) in let b = picked_length H ns (within agent H ns c flags k) in let s = k.few in let d = k.counted in omega (arith, a, b, s, d))
+
+  same_now : SameGraph H (all_of q)
+  same_now = subst (λ (r : ReplicaView). SameGraph H (all_of r)) e (λ u. let s = same_graph agent H ns c flags k u in (s.1, s.0))
+
+  legal_now : IsLegal (all_of q)
+  legal_now = subst (λ (r : ReplicaView). IsLegal (all_of r)) e k.sound.legal
+
+  pub frontier_now : (F : List (List ℕ)) → IsFrontierOf (graph_of H) F → F ≡ frontier (all_of q)
+  frontier_now F is = one_frontier (graph_of H) F is ∙ sym ((alike agent H ns c flags k).frontier) ∙ ap (λ (r : ReplicaView). frontier (all_of r)) e
+
+  pub text_now : (F : List (List ℕ)) (t : List ℕ) → IsFrontierOf (graph_of H) F → HoldsAll (graph_of H) F × (t ≡ text_at H F) → t ≡ text_of (all_of q)
+  text_now F t is s = s.1 ∙ same_text_at H (all_of q) k.legal legal_now same_now F s.0 ∙ ap (text_at (all_of q)) (frontier_now F is)
+
+  pub digest_now : (d : List ℕ) → d ≡ digest_at H → d ≡ digest_at (all_of q)
+  digest_now d s = s ∙ same_digest H (all_of q) k.legal legal_now same_now
+
+-- the graph of the first confirmed updates
+take_map : (us : List UpdateView) (n : ℕ) → graph_of (take n us) ≡ take n (graph_of us)
+take_map us zero = refl
+take_map [] (suc n) = refl
+take_map (u ∷ us) (suc n) = ap (λ t. entry_of u ∷ t) (take_map us n)
+
+get_map : (us : List UpdateView) (n : ℕ) (u : UpdateView) → slice_get us n ≡ Some u → slice_get (graph_of us) n ≡ Some (entry_of u)
+get_map [] n u e = cc
+get_map (w ∷ us) zero u e = let f : w ≡ u = cc in ap (λ (t : UpdateView). Some (entry_of t)) f
+get_map (w ∷ us) (suc n) u e = get_map us n u e
+
+module _ (q : ReplicaView) (sound : IsSound q) (n : ℕ) (within : n < length q.confirmed) (u : UpdateView) (at : Some u ≡ slice_get (all_of q) n) where
+  here : slice_get q.confirmed n ≡ Some u
+  here = sym (slice_get-append_left q.confirmed q.unsent n within) ∙ sym at
+
+  history : IsHistoryGraph (graph_of q.confirmed)
+  history = legal_graph q.confirmed (legal_back (reverse q.unsent) (reverse q.confirmed) (subst IsLegalLog (log_parts q.confirmed q.unsent) sound.legal))
+
+  pub graph_new : (es : List GraphEntry) → es ≡ graph_of (take n q.confirmed) → (id : List ℕ) → id ≡ u.id → Holds es id → ⊥
+  graph_new es e id f h = history.distinct n (entry_of u) (get_map q.confirmed n u here) (subst (λ (t : List GraphEntry). Holds t u.id) (e ∙ take_map q.confirmed n) (subst (Holds es) f h))
+
+  pub graph_held : (es : List GraphEntry) → es ≡ graph_of (take n q.confirmed) → (parents : List (List ℕ)) → parents ≡ u.parents → HoldsAll es parents
+  graph_held es e parents f = subst (HoldsAll es) (sym f) (subst (λ (t : List GraphEntry). HoldsAll t u.parents) (sym (e ∙ take_map q.confirmed n)) (history.parents_first n (entry_of u) (get_map q.confirmed n u here)))
+
+  pub graph_few : (es : List GraphEntry) → es ≡ graph_of (take n q.confirmed) → length (all_of q) ≤ 524288 → length es < 524288
+  graph_few es e few = omega (arith, ap length e, length-map (take n q.confirmed) entry_of, length-take n q.confirmed, within, few, length-append q.confirmed q.unsent)
+
+  pub graph_next : (es es' : List GraphEntry) (id : List ℕ) (parents : List (List ℕ)) → es ≡ graph_of (take n q.confirmed) → id ≡ u.id → parents ≡ u.parents → es' ≡ es ++ record { id = id; parents = parents } ∷ [] → es' ≡ graph_of (take (n + 1) q.confirmed)
+  graph_next es es' id parents e f g s = s ∙ (λ i. e i ++ record { id = f i; parents = g i } ∷ []) ∙ sym (ap graph_of (take_next q.confirmed n u here) ∙ map-append entry_of (take n q.confirmed) (u ∷ []))
+
+pub graph_all : (us : List UpdateView) (n : ℕ) (es : List GraphEntry) → length us ≤ n → es ≡ graph_of (take n us) → es ≡ graph_of us
+graph_all us n es far e = e ∙ ap graph_of (take_all n us far)
+
+-- the identifiers that a replica resumes from
+pub resumes : (q : ReplicaView) (es : List GraphEntry) (F ids G : List (List ℕ)) → es ≡ graph_of q.confirmed → IsFrontierOf es F → ids ≡ take 32 F → IsRising G → ((v : List ℕ) → Contains G v ↔ Contains ids v) → G ≡ resume_of q
+resumes q es F ids G e is s rising same = same_rising G (take 32 F) rising (take_rises 32 F is.rising)
+    (λ v m. subst (Member v) s (contains_member ids v ((same v).0 (member_contains G v m))))
+    (λ v m. contains_member G v ((same v).1 (member_contains ids v (subst (Member v) (sym s) m))))
+    ∙ ap (take 32) (one_frontier es F is ∙ ap frontier_of e)
+
+-- the first identifiers of a frontier
+pub least_next : (F ids ids' : List (List ℕ)) (n : ℕ) (v w : List ℕ) → (ids ≡ take n F) × (n ≤ 32) → (n ≡ 32 → ⊥) → Some v ≡ slice_get F n → w ≡ v → ids' ≡ ids ++ w ∷ [] → (ids' ≡ take (n + 1) F) × (n + 1 ≤ 32)
+least_next F ids ids' n v w k other at e s = (s ∙ (λ i. k.0 i ++ e i ∷ []) ∙ sym (take_next F n v (sym at)), omega (arith, k.1, other))
+
+pub least_full : (F ids : List (List ℕ)) (n : ℕ) → ids ≡ take n F → n ≡ 32 → ids ≡ take 32 F
+least_full F ids n e f = e ∙ ap (λ (m : ℕ). take m F) f
+
+pub least_end : (F ids : List (List ℕ)) (n : ℕ) → (ids ≡ take n F) × (n ≤ 32) → length F ≤ n → ids ≡ take 32 F
+least_end F ids n k far = k.0 ∙ take_all n F far ∙ sym (take_all 32 F (omega (arith, far, k.1)))
+
+pub resumes_ok : {E : Type 0} (q : ReplicaView) (es : List GraphEntry) (F ids : List (List ℕ)) (r : Result (List (List ℕ)) E) → es ≡ graph_of q.confirmed → IsFrontierOf es F → ids ≡ take 32 F → IfOk r IsRising → IfOk r (λ (G : List (List ℕ)). (v : List ℕ) → Contains G v ↔ Contains ids v)
+    → IfOk r (λ (G : List (List ℕ)). G ≡ resume_of q)
+resumes_ok q es F ids (Ok G) e is s rising same = resumes q es F ids G e is s rising same
+resumes_ok q es F ids (Err x) e is s rising same = rising

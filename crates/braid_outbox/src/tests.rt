@@ -1,0 +1,139 @@
+//! Updates that a replica is given to learn, and what it tells then.
+
+ghost use Rattle.std.specs.Prelude.{◌≡◌};
+
+use super::*;
+use braid_change::{Change, ListPatch, Patch, Text, Update};
+use braid_ids::{Agent, Frontier, Id};
+use std::alloc::Global;
+use std::test::Fail;
+
+/// What an update does: a whole body, one patch, or no patch.
+#[derive(Clone, Copy)]
+enum Edit<'a> {
+    Body(&'a str),
+    Patch(u32, u32, &'a str),
+    Nothing,
+}
+
+/// The answer that is wanted.
+#[derive(Clone, Copy)]
+enum Want<'a> {
+    New,
+    Known,
+    Clash(&'a str),
+    Unknown(&'a str),
+    Past(u32, u32),
+}
+
+/// An update that is given: its name, its parents, what it does, and the answer that is wanted.
+#[derive(Clone, Copy)]
+struct Offer<'a> {
+    name: &'a str,
+    parents: &'a str,
+    edit: Edit<'a>,
+    want: Want<'a>,
+}
+
+fn make_offer<'a>(name: &'a str, parents: &'a str, edit: Edit<'a>, want: Want<'a>) -> Offer<'a> {
+    Offer {
+        name,
+        parents,
+        edit,
+        want,
+    }
+}
+
+fn check(holds: bool, what: &'static str) -> Result<(), Fail> {
+    if holds { Ok(()) } else { Err(what.into()) }
+}
+
+/// The set of the names between spaces.
+fn names_of(alloc: Global, names: &str) -> Result<Frontier, Fail> {
+    let mut ids = Vec::new(alloc);
+    for name in names.split_ascii_whitespace() {
+        ids.push(Id::read(alloc, name.as_bytes())?)?;
+    }
+    if ids.len() > 100 {
+        return Err("too many names".into());
+    }
+    Ok(Frontier::of(ids)?)
+}
+
+fn change_of(alloc: Global, edit: Edit<'_>) -> Result<Change, Fail> {
+    match edit {
+        Edit::Body(text) => Ok(Change::Body(Text::read(alloc, text.as_bytes())?)),
+        Edit::Patch(start, end, text) => {
+            let text = Text::read(alloc, text.as_bytes())?;
+            let patch = Patch { start, end, text };
+            Ok(Change::Patches(ListPatch::of(vec![in alloc; patch]?)))
+        }
+        Edit::Nothing => Ok(Change::Patches(ListPatch::of(Vec::new(alloc)))),
+    }
+}
+
+fn update_of(alloc: Global, row: &Offer<'_>) -> Result<Update, Fail> {
+    let id = Id::read(alloc, row.name.as_bytes())?;
+    let parents = names_of(alloc, row.parents)?;
+    let change = change_of(alloc, row.edit)?;
+    if change.patches().len() > 9 {
+        return Err("too many patches".into());
+    }
+    Ok(Update::build(id, parents, change)?)
+}
+
+fn is_answer(answer: &Learn, want: Want<'_>) -> bool {
+    match (answer, want) {
+        (Learn::New, Want::New) => true,
+        (Learn::Known, Want::Known) => true,
+        (Learn::Clash { id }, Want::Clash(name)) => id.bytes() == name.as_bytes(),
+        (Learn::UnknownParent { id }, Want::Unknown(name)) => id.bytes() == name.as_bytes(),
+        (Learn::OutOfRange { patch, len }, Want::Past(n, end)) => *patch == n && *len == end,
+        _ => false,
+    }
+}
+
+/// A replica of agent `a` that was given these updates, each with the answer that is wanted.
+fn given(alloc: Global, rows: &[Offer<'_>]) -> Result<Replica, Fail> {
+    let mut replica = Replica::new(alloc, Agent::read(alloc, b"a")?);
+    for row in rows {
+        let update = update_of(alloc, row)?;
+        let answer = replica.learn(alloc, update);
+        check(is_answer(&answer, row.want), "the answer")?;
+    }
+    Ok(replica)
+}
+
+#[test]
+fn a_replica_learns_what_stands_on_confirmed_updates(rt: HostRuntime) -> Result<(), Fail> {
+    let alloc = rt.alloc();
+    let rows = [
+        make_offer("x-1", "", Edit::Body("ab"), Want::New),
+        make_offer("x-1", "", Edit::Body("ab"), Want::Known),
+        make_offer("x-1", "", Edit::Body("ho"), Want::Clash("x-1")),
+        make_offer("y-1", "x-1 z-1", Edit::Nothing, Want::Unknown("z-1")),
+        make_offer("y-1", "x-1", Edit::Patch(0, 3, "J"), Want::Past(0, 2)),
+        make_offer("p-1", "x-1", Edit::Patch(1, 1, "P"), Want::New),
+        make_offer("q-1", "x-1", Edit::Patch(1, 1, "Q"), Want::New),
+    ];
+    let replica = given(alloc, &rows)?;
+    check(
+        replica.confirmed() == 3 && replica.unsent() == 0,
+        "the counts",
+    )?;
+    let heads = names_of(alloc, "p-1 q-1")?;
+    check(replica.holds(&heads), "the heads are confirmed")?;
+    check(replica.resume(alloc)?.len() == 2, "it resumes from both")?;
+    let text = Text::read(alloc, b"aQPb")?;
+    check(replica.body(alloc)?.same(&text), "the text")
+}
+
+#[test]
+fn nothing_is_acknowledged_where_nothing_is_unsent(rt: HostRuntime) -> Result<(), Fail> {
+    let alloc = rt.alloc();
+    let rows = [make_offer("x-1", "", Edit::Body("ab"), Want::New)];
+    let mut replica = given(alloc, &rows)?;
+    let id = Id::read(alloc, b"x-1")?;
+    check(!replica.acked(&id), "the answer")?;
+    check(replica.next_out().is_none(), "nothing is to be sent")
+}
