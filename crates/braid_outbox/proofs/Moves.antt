@@ -20,10 +20,10 @@ use Rattle.braid_text.proofs.Held.{new_in}
 use Rattle.braid_text.proofs.Judged.{updates_Decide, found, not_found, follows_from}
 use Rattle.braid_text.proofs.Logs.{Has, not_has, has_part, legal_between, in_back, follows_held}
 use Rattle.braid_outbox.specs.declared.world.Reading.{Reading}
-use Rattle.braid_outbox.specs.Shapes.{IsUpdate}
 use Rattle.braid_outbox.specs.Replicas.{ReplicaView, IsSound, IsChained, Names, log_of}
 use Rattle.braid_outbox.specs.Learns.{confirm, has_first, acked, is_first, clash, Learnt, Confirmed, Judged, learn_answer, learnt}
 use Rattle.braid_outbox.specs.Worlds.{reading_after}
+use Rattle.braid_outbox.proofs.Shapes.{IsProper}
 use Rattle.braid_outbox.proofs.Additions.{log_parts, log_more}
 
 pub to_log : (us : List UpdateView) (u : UpdateView) → Member u us → Member u (reverse us)
@@ -78,7 +78,7 @@ confirms r u os e sound = record {
     same = append_assoc r.confirmed (u ∷ []) os ∙ ap (λ t. r.confirmed ++ t) (sym e)
 
 -- a new update goes between the confirmed and the unsent ones
-pub learns_new : (r : ReplicaView) (u : UpdateView) → IsSound r → IsUpdate u → is_first u r.unsent ≡ false → clash u (find_in u.id r.unsent) ≡ None → refusal_in (reverse r.confirmed) u ≡ None
+pub learns_new : (r : ReplicaView) (u : UpdateView) → IsSound r → IsProper u → is_first u r.unsent ≡ false → clash u (find_in u.id r.unsent) ≡ None → refusal_in (reverse r.confirmed) u ≡ None
     → Moves r (record { agent = r.agent; confirmed = r.confirmed ++ u ∷ []; unsent = r.unsent }) u
 learns_new r u sound built other no_clash fits = record {
   agent = refl;
@@ -223,7 +223,7 @@ clash_refused u (Some w) a h = go (same_update u w) h
     go false h = let e : Clash u.id ≡ a = cc in subst IsRefused e tt
 
 -- whatever is given, learn keeps a replica sound and loses nothing
-pub learn_moves : (limits : Room) (r : ReplicaView) (u : UpdateView) → IsSound r → IsUpdate u → Learns r u (learn_answer limits r u)
+pub learn_moves : (limits : Room) (r : ReplicaView) (u : UpdateView) → IsSound r → IsProper u → Learns r u (learn_answer limits r u)
 learn_moves limits r u sound built = go (is_first u r.unsent) refl
   where
     D : Option Accept

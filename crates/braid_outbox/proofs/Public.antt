@@ -4,7 +4,7 @@ use Rattle.std.specs.List.{Contains, slice_get}
 use Rattle.std.proofs.lemmas.List.{take_all}
 use Rattle.braid_ids.specs.Agents.{IsAgent}
 use Rattle.braid_change.specs.declared.change.Change.{Change}
-use Rattle.braid_change.specs.Updates.{UpdateView}
+use Rattle.braid_change.specs.Updates.{UpdateView, IsUpdate}
 use Rattle.braid_graph.specs.Entries.{HoldsAll}
 use Rattle.braid_tree.specs.Trees.{Member}
 use Rattle.braid_tree.proofs.Member.{member_append_left, member_append_right, member_append_cases}
@@ -16,7 +16,6 @@ use Rattle.braid_outbox.specs.declared.world.World.{World}
 use Rattle.braid_outbox.specs.declared.world.Side.{Side}
 use Rattle.braid_outbox.specs.declared.world.Posted.{Posted}
 use Rattle.braid_outbox.specs.declared.world.Event.{Event}
-use Rattle.braid_outbox.specs.Shapes.{IsUpdate}
 use Rattle.braid_outbox.specs.Replicas.{ReplicaView, IsChained, IsSound, frontier}
 use Rattle.braid_outbox.specs.Writes.{additions, with_unsent, write}
 use Rattle.braid_outbox.specs.Learns.{acked, learn}
@@ -89,7 +88,7 @@ same_sound : (r q : ReplicaView) → q ≡ r → IsSound r → IsSound q × Lose
 same_sound r q e sound = subst (λ (t : ReplicaView). IsSound t × LosesNone r t) (sym e) (sound, λ u c. c)
 
 pub learn_law : (limits : Room) (r : ReplicaView) → IsSound r → (u : UpdateView) → IsUpdate u → IsSound (learn limits r u) × LosesNone r (learn limits r u)
-learn_law limits r sound u is = let m = (learn_moves limits r u sound is).moves in (m.sound, loses_none r (learn limits r u) u m)
+learn_law limits r sound u is = let m = (learn_moves limits r u sound (record { named = is.identifier; rising = is.rising; built = is.built })).moves in (m.sound, loses_none r (learn limits r u) u m)
 
 pub acked_law : (r : ReplicaView) → IsSound r → (v : List ℕ) → IsSound (acked v r) × LosesNone r (acked v r)
 acked_law r sound v = elim (acked_cases v r sound) [

@@ -17,7 +17,13 @@ use Rattle.braid_tree.proofs.Member.{all_member, all_from_members}
 use Rattle.braid_tree.proofs.Keys.{ids_strict}
 use Rattle.braid_text.proofs.Whole.{and_cases}
 use Rattle.braid_text.proofs.Same.{and_true}
-use Rattle.braid_outbox.specs.Shapes.{are_listed, are_numbered, have_scalars, are_scalars, is_shaped, are_printable, is_identifier, is_rising, is_update, IsUpdate}
+use Rattle.braid_outbox.specs.Shapes.{are_listed, are_numbered, have_scalars, are_scalars, is_shaped, are_printable, is_identifier, is_rising, is_update}
+
+-- what is asked of an update here: its name is an identifier, its parents rise, and it is built
+pub record IsProper (u : UpdateView) : Type 0 where
+  pub named : IsIdentifier u.id
+  pub rising : IsRising u.parents
+  pub built : IsBuilt u.parents u.change
 
 pub le_from : (x y : ℕ) → nat_le x y ≡ true → x ≤ y
 le_from x y h = grind (arith, nat_tests)
@@ -116,8 +122,8 @@ rising_from (v ∷ w ∷ ws) h = let p = and_cases (is_lt (id_cmp v w)) (is_risi
     more : id_cmp v w ≡ Less → IsRising (w ∷ ws) → IsRising (v ∷ w ∷ ws)
     more l r = ((l, all_from_members (λ (x : List ℕ). id_cmp v x ≡ Less) ws (λ x m. ids_strict.total.trans v w x l (all_member (λ (x : List ℕ). id_cmp w x ≡ Less) x ws r.0 m))), r)
 
--- an update that passes the test is one as the program has them
-pub update_from : (u : UpdateView) → is_update u ≡ true → IsUpdate u
+-- an update that passes the test is so
+pub update_from : (u : UpdateView) → is_update u ≡ true → IsProper u
 update_from u h =
     let a = and_cases (is_identifier u.id) (is_rising u.parents && (nat_le (length u.parents) 32 && is_shaped u.change)) h in
     let b = and_cases (is_rising u.parents) (nat_le (length u.parents) 32 && is_shaped u.change) a.1 in

@@ -14,12 +14,12 @@ use Rattle.braid_text.proofs.Logs.{Has}
 use Rattle.braid_outbox.specs.declared.world.Reading.{Reading}
 use Rattle.braid_outbox.specs.declared.world.Side.{Side}
 use Rattle.braid_outbox.specs.declared.world.World.{World}
-use Rattle.braid_outbox.specs.Shapes.{IsUpdate}
 use Rattle.braid_outbox.specs.Replicas.{ReplicaView, frontier}
 use Rattle.braid_outbox.specs.Writes.{additions, with_unsent}
 use Rattle.braid_outbox.specs.Learns.{learn_answer, learnt, acked, Learnt}
 use Rattle.braid_outbox.specs.Worlds.{replica_of, with_side, at_side, with_replica, writes, opens, cuts, keeps, goes_back, reading_after, learns, carries_from, carries, acks}
 use Rattle.braid_outbox.specs.Laws.{AreDifferent}
+use Rattle.braid_outbox.proofs.Shapes.{IsProper}
 use Rattle.braid_outbox.proofs.Names.{IsName}
 use Rattle.braid_outbox.proofs.Fronts.{frontier_cases}
 use Rattle.braid_outbox.proofs.Additions.{AddsWell, write_cases}
@@ -202,8 +202,8 @@ back_side H s good = (
 )
 
 -- an update of a legal log is one as the program has them
-pub update_in : (us : List UpdateView) → IsLegalLog us → (u : UpdateView) → Member u us → IsUpdate u
-update_in (w ∷ us) legal u (inl e) = subst IsUpdate e (record { named = legal.0.named; rising = legal.0.rising; built = legal.0.built })
+pub update_in : (us : List UpdateView) → IsLegalLog us → (u : UpdateView) → Member u us → IsProper u
+update_in (w ∷ us) legal u (inl e) = subst IsProper e (record { named = legal.0.named; rising = legal.0.rising; built = legal.0.built })
 update_in (w ∷ us) legal u (inr m) = update_in us legal.1 u m
 update_in [] legal u m = absurd m
 

@@ -28,11 +28,11 @@ use Rattle.braid_outbox.specs.declared.world.Answered.{Answered}
 use Rattle.braid_outbox.specs.declared.world.World.{World}
 use Rattle.braid_outbox.specs.declared.world.Event.{Event}
 use Rattle.braid_outbox.specs.declared.world.Event.TheVariants.{Write, Open, Carry, Cut, Keep, Back, Post, Land, Ack, Foreign}
-use Rattle.braid_outbox.specs.Shapes.{is_update, IsUpdate}
+use Rattle.braid_outbox.specs.Shapes.{is_update}
 use Rattle.braid_outbox.specs.Replicas.{number}
 use Rattle.braid_outbox.specs.Worlds.{at_side, posts_first, posts, status_of, after, lands, acks, replied, is_foreign, joins, step, run, empty_side, start, writes, opens, carries, cuts, keeps, goes_back}
 use Rattle.braid_outbox.specs.Laws.{AreDifferent}
-use Rattle.braid_outbox.proofs.Shapes.{update_from}
+use Rattle.braid_outbox.proofs.Shapes.{IsProper, update_from}
 use Rattle.braid_outbox.proofs.Names.{IsName, one_agent, name_numbered}
 use Rattle.braid_outbox.proofs.Additions.{log_parts, log_more}
 use Rattle.braid_outbox.proofs.Moves.{to_log, of_log, refusal_cases, IsRefused}
@@ -174,10 +174,10 @@ land_good w good full p m = go (refusal_in (reverse H) u) full refl
     g : GoodPut H w.sides u
     g = good.puts p m
 
-    built : IsUpdate u
+    built : IsProper u
     built = by g.made
       where
-        by : (s : Side) × Member s w.sides × Member u (kept_all s) × IsName s.agent u.id → IsUpdate u
+        by : (s : Side) × Member s w.sides × Member u (kept_all s) × IsName s.agent u.id → IsProper u
         by (s, k, n, i) = update_in (reverse (kept_all s)) (good.sides s k).kept.legal u (to_log (kept_all s) u n)
 
     Next : Accept → World

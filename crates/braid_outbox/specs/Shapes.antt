@@ -1,14 +1,13 @@
 -- Tests of updates and changes: which are as the program builds them.
-use Rattle.std.specs.Prelude.{◌≡◌, ℕ, ◌^◌, nat_le, nat_lt, List, [], ◌∷◌, length, Bool, true, ◌&&◌}
+use Rattle.std.specs.Prelude.{ℕ, ◌^◌, nat_le, nat_lt, List, [], ◌∷◌, length, Bool, true, ◌&&◌}
 use Rattle.std.specs.Ordering.{is_lt}
 use Rattle.std.specs.Str.{all_scalars}
-use Rattle.braid_ids.specs.Identifiers.{IsIdentifier, id_cmp}
-use Rattle.braid_ids.specs.Frontiers.{IsRising}
+use Rattle.braid_ids.specs.Identifiers.{id_cmp}
 use Rattle.braid_change.specs.declared.patch.Patch.{Patch}
 use Rattle.braid_change.specs.declared.change.Change.{Change}
 use Rattle.braid_change.specs.declared.change.Change.TheVariants.{Body, Patches}
 use Rattle.braid_change.specs.Changes.{patches_of, content_len}
-use Rattle.braid_change.specs.Updates.{UpdateView, IsBuilt}
+use Rattle.braid_change.specs.Updates.{UpdateView}
 
 -- no patch's start is above its end, none starts below the end of the one before it, and the first not below `low`
 abbrev pub are_listed : ℕ → List Patch → Bool
@@ -53,9 +52,3 @@ is_rising (v ∷ w ∷ ws) = is_lt (id_cmp v w) && is_rising (w ∷ ws)
 -- an update is one as the program has them
 abbrev pub is_update : UpdateView → Bool
 is_update u = is_identifier u.id && (is_rising u.parents && (nat_le (length u.parents) 32 && is_shaped u.change))
-
--- an update as the program has them: its name is an identifier, its parents rise, and it is built
-pub record IsUpdate (u : UpdateView) : Type 0 where
-  pub named : IsIdentifier u.id
-  pub rising : IsRising u.parents
-  pub built : IsBuilt u.parents u.change

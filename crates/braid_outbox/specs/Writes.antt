@@ -111,7 +111,8 @@ IsWriteFault limits r c (Full which limit) =
     Fits r c × (last_number r < 2 ^ 64) × ((n : ℕ) × (left : ℕ) × IsOver (write_needs r c) (room_of limits (all_of r)) which n left) × (limit ≡ limit_of limits which)
 IsWriteFault limits r c Memory = Unit {0}
 
--- some pure merges were added, and nothing else
-pub record AddsMerges (r q : ReplicaView) : Type 0 where
+-- some pure merges were added, and nothing else; none where the change is not written
+pub record AddsMerges (limits : Room) (r : ReplicaView) (c : Change) (q : ReplicaView) : Type 0 where
   pub count : ℕ
   pub added : q ≡ with_unsent r (take count (merges_of r))
+  pub due : 0 < count → is_written limits r c ≡ true

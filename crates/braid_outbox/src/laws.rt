@@ -4,7 +4,7 @@
 ghost use Rattle.std.specs.Prelude.{◌≡◌, ◌↔◌, ℕ, List, Bool, Contains, take, length};
 ghost use Rattle.braid_ids.specs.Agents.{IsAgent};
 ghost use Rattle.braid_change.specs.declared.change.Change.{Change};
-ghost use Rattle.braid_change.specs.Updates.{UpdateView};
+ghost use Rattle.braid_change.specs.Updates.{UpdateView, IsUpdate};
 ghost use Rattle.braid_graph.specs.Entries.{HoldsAll};
 ghost use Rattle.braid_text.specs.Histories.{graph_of, SameGraph};
 ghost use Rattle.braid_text.specs.declared.room.Room.{Room};
@@ -12,14 +12,13 @@ ghost use Rattle.braid_outbox.specs.declared.world.World.{World};
 ghost use Rattle.braid_outbox.specs.declared.world.Side.{Side};
 ghost use Rattle.braid_outbox.specs.declared.world.Posted.{Posted};
 ghost use Rattle.braid_outbox.specs.declared.world.Event.{Event};
-ghost use Rattle.braid_outbox.specs.Shapes.{IsUpdate};
 ghost use Rattle.braid_outbox.specs.Replicas.{ReplicaView, IsSound, frontier};
 ghost use Rattle.braid_outbox.specs.Writes.{write};
 ghost use Rattle.braid_outbox.specs.Learns.{acked, learn};
 ghost use Rattle.braid_outbox.specs.Worlds.{replica_of, kept_of, land_answer};
 ghost use Rattle.braid_outbox.specs.Laws.{AreAgents, reached, IsPart, Keeps, IsAtEnd, IsTaken, CarriesWell, LosesNone};
 
-pub use crate::lists::{ListAnswered, ListPosted, ListSide, ListUpdate};
+pub use crate::lists::{ListAnswered, ListPosted, ListSide};
 pub use crate::world::{Answered, Event, Posted, Reading, Side, World};
 
 /// Whatever happens, every replica and every kept copy is sound, and what it has confirmed is a part of the history that

@@ -22,7 +22,6 @@ mod world;
 
 pub use faults::{BadReplica, WriteFault};
 pub use learn::Learn;
-pub use lists::ListUpdate;
 pub use replica::Replica;
 
 #[cfg(test)]

@@ -1,7 +1,7 @@
 //! A world of one history and its replicas as plain data, and what may happen in it.
 
-use crate::lists::{ListAnswered, ListPosted, ListSide, ListUpdate};
-use braid_change::{Change, Update};
+use crate::lists::{ListAnswered, ListPosted, ListSide};
+use braid_change::{Change, ListUpdate, Update};
 use braid_ids::{Agent, Frontier, Id};
 
 /// The history of one resource, the replicas beside it, and all PUTs and replies ever made.
