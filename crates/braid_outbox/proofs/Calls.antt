@@ -149,14 +149,14 @@ module _ (agent : List ℕ) (H : List UpdateView) (ns : List ℕ) (c : ℕ) (fla
         (subst (IsKept agent H ns (c + 1)) (sym (set_first flags' f)) (first_kept agent H ns c flags k (first_number.0) (first_number.1))))
 
 -- acknowledging
-other_id : (v w : List ℕ) → true ≡ not (pointwise nat_eq w v) → is_eq (id_cmp v w) ≡ false
+pub other_id : (v w : List ℕ) → true ≡ not (pointwise nat_eq w v) → is_eq (id_cmp v w) ≡ false
 other_id v w h = go (is_eq (id_cmp v w)) refl
   where
     go : (b : Bool) → is_eq (id_cmp v w) ≡ b → b ≡ false
     go false t = refl
     go true t = let s : pointwise nat_eq w v ≡ true = (ids_Decide w v).1 (sym (eq_true id_cmp ids_strict v w t)) in cc
 
-same_id : (v w : List ℕ) → false ≡ not (pointwise nat_eq w v) → is_eq (id_cmp v w) ≡ true
+pub same_id : (v w : List ℕ) → false ≡ not (pointwise nat_eq w v) → is_eq (id_cmp v w) ≡ true
 same_id v w h = subst (λ (t : List ℕ). is_eq (id_cmp v t) ≡ true) (sym (same_bytes w v (go (pointwise nat_eq w v) h))) (eq_itself id_cmp ids_strict v)
   where
     go : (b : Bool) → false ≡ not b → b ≡ true

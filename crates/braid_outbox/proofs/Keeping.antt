@@ -59,10 +59,10 @@ drop_member_of n (suc k) [] m = absurd m
 drop_member_of n (suc k) (x ∷ xs) m = inr (drop_member_of n k xs m)
 
 -- the counts of a longer history
-elements_grow : (H : List UpdateView) (u : UpdateView) → length (elements_of (H ++ u ∷ [])) ≡ length (elements_of H) + (needs_of H u).elements
+pub elements_grow : (H : List UpdateView) (u : UpdateView) → length (elements_of (H ++ u ∷ [])) ≡ length (elements_of H) + (needs_of H u).elements
 elements_grow H u = ap length (elements_more H u) ∙ length-append (elements_of H) (elements_by (added_by H u)) ∙ ap (λ n. length (elements_of H) + n) (length-map (added_by H u).nodes element_of)
 
-deletions_grow : (H : List UpdateView) (u : UpdateView) → length (deletions_of (H ++ u ∷ [])) ≡ length (deletions_of H) + (needs_of H u).deletions
+pub deletions_grow : (H : List UpdateView) (u : UpdateView) → length (deletions_of (H ++ u ∷ [])) ≡ length (deletions_of H) + (needs_of H u).deletions
 deletions_grow H u = ap length (deletions_more H u) ∙ length-append (deletions_of H) (deletions_by (added_by H u)) ∙ ap (λ n. length (deletions_of H) + n) (length-map (added_by H u).deleted _)
 
 module _ (agent : List ℕ) (H : List UpdateView) (ns : List ℕ) (c : ℕ) (flags : List Bool) (k : IsKept agent H ns c flags) where

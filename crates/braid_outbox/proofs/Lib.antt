@@ -18,3 +18,5 @@ pub mod Calls
 pub mod Learned
 pub mod Found
 pub mod ReadNow
+pub mod Loaded
+pub mod Written

@@ -100,7 +100,7 @@ none_added n a us os narrow legal chained newest = record {
   narrow = narrow;
 }
 
-turned : (m : UpdateView) (ms us : List UpdateView) → reverse (m ∷ ms) ++ us ≡ reverse ms ++ m ∷ us
+pub turned : (m : UpdateView) (ms us : List UpdateView) → reverse (m ∷ ms) ++ us ≡ reverse ms ++ m ∷ us
 turned m ms us = ap (λ t. t ++ us) (reverse-append (m ∷ []) ms) ∙ append_assoc (reverse ms) (m ∷ []) us
 
 -- an update of the agent at members of the frontier

@@ -44,6 +44,9 @@ module _ (agent : List ℕ) (H : List UpdateView) (ns : List ℕ) (c : ℕ) (fla
   pub frontier_now : (F : List (List ℕ)) → IsFrontierOf (graph_of H) F → F ≡ frontier (all_of q)
   frontier_now F is = one_frontier (graph_of H) F is ∙ sym ((alike agent H ns c flags k).frontier) ∙ ap (λ (r : ReplicaView). frontier (all_of r)) e
 
+  pub width_now : length (frontier H) ≡ length (frontier (all_of q))
+  width_now = ap length (sym ((alike agent H ns c flags k).frontier) ∙ ap (λ (r : ReplicaView). frontier (all_of r)) e)
+
   pub text_now : (F : List (List ℕ)) (t : List ℕ) → IsFrontierOf (graph_of H) F → HoldsAll (graph_of H) F × (t ≡ text_at H F) → t ≡ text_of (all_of q)
   text_now F t is s = s.1 ∙ same_text_at H (all_of q) k.legal legal_now same_now F s.0 ∙ ap (text_at (all_of q)) (frontier_now F is)
 

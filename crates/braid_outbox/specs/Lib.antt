@@ -6,3 +6,4 @@ pub mod Worlds
 pub mod Laws
 pub mod Kept
 pub mod Standings
+pub mod Made

@@ -54,6 +54,10 @@ additions r c =
     let us = reverse (merges_of r) ++ log_of r in
     merges_of r ++ next_in r.agent us (frontier us) c ∷ []
 
+-- the pure merge that a replica's frontier is given next
+abbrev pub next_merge : ReplicaView → UpdateView
+next_merge r = next_in r.agent (log_of r) (merge_parents (last_id r.unsent) (frontier (log_of r))) (Patches [])
+
 -- how many pure merges a frontier of this many members needs before it has at most 32: each takes 32 of them and leaves one
 abbrev pub merges_needed : ℕ → ℕ
 merges_needed width = (width - 2) / 31

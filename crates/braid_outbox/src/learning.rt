@@ -92,7 +92,7 @@ impl Replica {
     }
 
     /// The first member of a frontier that is not confirmed, which is the least such.
-    fn least_unconfirmed<'a>(&self, of: &'a Frontier) -> Option<&'a Id>
+    pub(crate) fn least_unconfirmed<'a>(&self, of: &'a Frontier) -> Option<&'a Id>
         ensures least { option_copied result ≡ first_missing of.now (reverse self.now.confirmed) }
     {
         for i in 0..of.len() {

@@ -9,16 +9,20 @@
 //! want of room. They do not say that a message arrives.
 #![tactic(auto)]
 
+mod counting;
 mod faults;
 pub mod laws;
 mod learn;
 mod learning;
 mod lists;
+mod making;
+mod merging;
 mod order;
 mod reading;
 mod replica;
 mod standing;
 mod world;
+mod writing;
 
 pub use faults::{BadReplica, WriteFault};
 pub use learn::Learn;
@@ -26,3 +30,7 @@ pub use replica::Replica;
 
 #[cfg(test)]
 mod tests;
+#[cfg(test)]
+mod write_tests;
+#[cfg(test)]
+mod making_tests;

@@ -80,7 +80,7 @@ impl Replica {
 }
 
 /// The 32 least members of a frontier, or all where there are fewer.
-fn least(alloc: Global, of: &Frontier) -> Result<Vec<Id>, Memory>
+pub(crate) fn least(alloc: Global, of: &Frontier) -> Result<Vec<Id>, Memory>
     ensures ok { IfOk result (λ ids. ids.items ≡ take 32 of.now) }
     ensures few { IfOk result (λ ids. vec_len ids ≤ 32) }
     ensures rising { IsRising of.now }

@@ -1,5 +1,6 @@
 ghost use Rattle.std.specs.Prelude.{◌≡◌, ◌≢◌, ◌↔◌, ◌≤◌, ◌<◌, ◌++◌, ◌∷◌, [], ℕ, List, Some, IfOk, IfSome, IsTrue, Contains, length, drop, reverse, slice_get};
 ghost use Rattle.std.specs.Option.{option_copied};
+ghost use Rattle.braid_ids.specs.Agents.{IsAgent};
 ghost use Rattle.braid_ids.specs.Frontiers.{IsRising};
 ghost use Rattle.braid_graph.specs.Entries.{Holds, HoldsAll};
 ghost use Rattle.braid_graph.specs.Frontiers.{IsFrontierOf};
@@ -10,6 +11,7 @@ ghost use Rattle.braid_text.specs.declared.accept.Accept.TheVariants.{New, Memor
 ghost use Rattle.braid_outbox.specs.Replicas.{IsSound, all_of, limits_with};
 ghost use Rattle.braid_outbox.specs.Writes.{last_id, with_unsent};
 ghost use Rattle.braid_outbox.specs.Learns.{confirm, has_first, acked};
+ghost use Rattle.braid_outbox.specs.Made.{IsFine};
 ghost use Rattle.braid_outbox.specs.Standings.{Stands};
 
 use crate::order::Order;
@@ -27,6 +29,9 @@ pub const MOST_ELEMENTS: u64 = 33_554_432;
 pub const MOST_DELETIONS: u64 = 67_108_864;
 
 pub const MOST_WIDE: u64 = 2_000;
+
+/// A width that no history within the other limits has.
+pub const ANY_WIDTH: u64 = 1_000_000;
 
 /// A replica of one text: an agent, the updates that are known to be taken, and the agent's own that are not yet.
 ///
@@ -67,7 +72,10 @@ impl Replica {
     /// The agent. It takes no memory.
     pub fn agent(&self) -> &Agent
         ensures agent { result.now ≡ self.now.agent }
+        ensures valid { IsAgent self.now.agent }
     {
+        // An agent's bytes are read so that a proof learns what they are.
+        let _bytes = self.agent.bytes();
         &self.agent
     }
 
@@ -76,6 +84,7 @@ impl Replica {
         ensures count { result ≡ length self.now.confirmed }
         ensures sound { IsSound self.now }
         ensures few { length (all_of self.now) ≤ 524288 }
+        ensures fine { IsFine self.now.confirmed self.now.unsent }
     {
         self.order.confirmed
     }

@@ -10,7 +10,7 @@ use std::test::Fail;
 
 /// What an update does: a whole body, one patch, or no patch.
 #[derive(Clone, Copy)]
-enum Edit<'a> {
+pub enum Edit<'a> {
     Body(&'a str),
     Patch(u32, u32, &'a str),
     Nothing,
@@ -18,8 +18,9 @@ enum Edit<'a> {
 
 /// The answer that is wanted.
 #[derive(Clone, Copy)]
-enum Want<'a> {
+pub enum Want<'a> {
     New,
+    Confirmed,
     Known,
     Clash(&'a str),
     Unknown(&'a str),
@@ -28,14 +29,14 @@ enum Want<'a> {
 
 /// An update that is given: its name, its parents, what it does, and the answer that is wanted.
 #[derive(Clone, Copy)]
-struct Offer<'a> {
+pub struct Offer<'a> {
     name: &'a str,
     parents: &'a str,
     edit: Edit<'a>,
     want: Want<'a>,
 }
 
-fn make_offer<'a>(name: &'a str, parents: &'a str, edit: Edit<'a>, want: Want<'a>) -> Offer<'a> {
+pub fn make_offer<'a>(name: &'a str, parents: &'a str, edit: Edit<'a>, want: Want<'a>) -> Offer<'a> {
     Offer {
         name,
         parents,
@@ -44,12 +45,12 @@ fn make_offer<'a>(name: &'a str, parents: &'a str, edit: Edit<'a>, want: Want<'a
     }
 }
 
-fn check(holds: bool, what: &'static str) -> Result<(), Fail> {
+pub fn check(holds: bool, what: &'static str) -> Result<(), Fail> {
     if holds { Ok(()) } else { Err(what.into()) }
 }
 
 /// The set of the names between spaces.
-fn names_of(alloc: Global, names: &str) -> Result<Frontier, Fail> {
+pub fn names_of(alloc: Global, names: &str) -> Result<Frontier, Fail> {
     let mut ids = Vec::new(alloc);
     for name in names.split_ascii_whitespace() {
         ids.push(Id::read(alloc, name.as_bytes())?)?;
@@ -60,7 +61,7 @@ fn names_of(alloc: Global, names: &str) -> Result<Frontier, Fail> {
     Ok(Frontier::of(ids)?)
 }
 
-fn change_of(alloc: Global, edit: Edit<'_>) -> Result<Change, Fail> {
+pub fn change_of(alloc: Global, edit: Edit<'_>) -> Result<Change, Fail> {
     match edit {
         Edit::Body(text) => Ok(Change::Body(Text::read(alloc, text.as_bytes())?)),
         Edit::Patch(start, end, text) => {
@@ -72,7 +73,7 @@ fn change_of(alloc: Global, edit: Edit<'_>) -> Result<Change, Fail> {
     }
 }
 
-fn update_of(alloc: Global, row: &Offer<'_>) -> Result<Update, Fail> {
+pub fn update_of(alloc: Global, row: &Offer<'_>) -> Result<Update, Fail> {
     let id = Id::read(alloc, row.name.as_bytes())?;
     let parents = names_of(alloc, row.parents)?;
     let change = change_of(alloc, row.edit)?;
@@ -82,9 +83,10 @@ fn update_of(alloc: Global, row: &Offer<'_>) -> Result<Update, Fail> {
     Ok(Update::build(id, parents, change)?)
 }
 
-fn is_answer(answer: &Learn, want: Want<'_>) -> bool {
+pub fn is_answer(answer: &Learn, want: Want<'_>) -> bool {
     match (answer, want) {
         (Learn::New, Want::New) => true,
+        (Learn::Confirmed, Want::Confirmed) => true,
         (Learn::Known, Want::Known) => true,
         (Learn::Clash { id }, Want::Clash(name)) => id.bytes() == name.as_bytes(),
         (Learn::UnknownParent { id }, Want::Unknown(name)) => id.bytes() == name.as_bytes(),
@@ -94,14 +96,20 @@ fn is_answer(answer: &Learn, want: Want<'_>) -> bool {
 }
 
 /// A replica of agent `a` that was given these updates, each with the answer that is wanted.
-fn given(alloc: Global, rows: &[Offer<'_>]) -> Result<Replica, Fail> {
+pub fn given(alloc: Global, rows: &[Offer<'_>]) -> Result<Replica, Fail> {
     let mut replica = Replica::new(alloc, Agent::read(alloc, b"a")?);
+    give(alloc, &mut replica, rows)?;
+    Ok(replica)
+}
+
+/// Gives these updates to a replica, each with the answer that is wanted.
+fn give(alloc: Global, replica: &mut Replica, rows: &[Offer<'_>]) -> Result<(), Fail> {
     for row in rows {
         let update = update_of(alloc, row)?;
         let answer = replica.learn(alloc, update);
         check(is_answer(&answer, row.want), "the answer")?;
     }
-    Ok(replica)
+    Ok(())
 }
 
 #[test]
@@ -126,6 +134,24 @@ fn a_replica_learns_what_stands_on_confirmed_updates(rt: HostRuntime) -> Result<
     check(replica.resume(alloc)?.len() == 2, "it resumes from both")?;
     let text = Text::read(alloc, b"aQPb")?;
     check(replica.body(alloc)?.same(&text), "the text")
+}
+
+#[test]
+fn an_unsent_version_is_learnt_as_the_same_alone(rt: HostRuntime) -> Result<(), Fail> {
+    let alloc = rt.alloc();
+    let mut replica = given(alloc, &[make_offer("x-1", "", Edit::Body("ab"), Want::New)])?;
+    let _id = replica.write(alloc, change_of(alloc, Edit::Patch(1, 1, "P"))?)?;
+    let rows = [
+        make_offer("a-1", "x-1", Edit::Patch(1, 1, "Q"), Want::Clash("a-1")),
+        make_offer("y-1", "a-1 x-1", Edit::Nothing, Want::Unknown("a-1")),
+        make_offer("a-1", "x-1", Edit::Patch(1, 1, "P"), Want::Confirmed),
+        make_offer("y-1", "a-1", Edit::Nothing, Want::New),
+    ];
+    give(alloc, &mut replica, &rows)?;
+    check(
+        replica.confirmed() == 3 && replica.unsent() == 0,
+        "the counts",
+    )
 }
 
 #[test]

@@ -1,0 +1,6 @@
+use Rattle.std.proofs.Common.{◌≡◌, ◌-◌, ◌^◌, min, take}
+use Rattle.braid_change.specs.Splices.{removed}
+use Rattle.braid_outbox.proofs.counting.removed_len.Given as goal
+
+abbrev pub invariant-loop-patch : goal.invariant-loop-patch
+invariant-loop-patch l = l.len ≡ min (removed (take l.patch-index l.patches)) (2 ^ 64 - 1)
