@@ -16,7 +16,7 @@ use Rattle.braid_text.specs.Histories.{Follows, IsLegalLog, text_of}
 use Rattle.braid_text.specs.Answers.{room_of, first_full}
 use Rattle.braid_text.specs.declared.room.Room.{Room}
 use Rattle.braid_text.proofs.Public.{frontier_log}
-use Rattle.braid_outbox.specs.Shapes.{is_shaped}
+use Rattle.braid_outbox.specs.Shapes.{is_change}
 use Rattle.braid_outbox.specs.Replicas.{ReplicaView, IsSound, IsChained, all_of, log_of, frontier, greatest_number}
 use Rattle.braid_outbox.specs.Writes.{next_in, last_id, merges_of, merges_needed, last_number, additions, write_needs, is_written, with_unsent, write}
 use Rattle.braid_outbox.proofs.Shapes.{built_from, lt_from}
@@ -62,7 +62,7 @@ merges_counted r agent sound small = merges_length (length (frontier (log_of r))
     same : merges_needed (length (frontier (log_of r))) ≡ merges_needed (length (frontier (all_of r)))
     same = ap merges_needed same_width
 
-pub additions_good : (r : ReplicaView) (c : Change) → IsAgent r.agent → IsSound r → is_shaped c ≡ true → IsSome (spliced (text_of (all_of r)) c) → last_number r < 2 ^ 64 → AddsWell r (additions r c)
+pub additions_good : (r : ReplicaView) (c : Change) → IsAgent r.agent → IsSound r → is_change c ≡ true → IsSome (spliced (text_of (all_of r)) c) → last_number r < 2 ^ 64 → AddsWell r (additions r c)
 additions_good r c agent sound shaped fits small = record {
   legal = subst IsLegalLog (sym order) (follows, added.legal);
   chained = subst IsChained (append_assoc r.unsent ms (w ∷ [])) (chained_more (r.unsent ++ ms) w added.chained (λ v e. member_contains (frontier then_log) v (added.newest v e)));
@@ -109,12 +109,12 @@ additions_good r c agent sound shaped fits small = record {
 
 -- a write adds what it adds where that leaves all well, or changes nothing
 pub write_cases : (limits : Room) (r : ReplicaView) (c : Change) → IsAgent r.agent → IsSound r → (write limits r c ≡ with_unsent r (additions r c) × AddsWell r (additions r c)) ⊎ (write limits r c ≡ r)
-write_cases limits r c agent sound = go (is_shaped c) (is_some (spliced (text_of (all_of r)) c)) (nat_lt (last_number r) (2 ^ 64)) (is_some (first_full (write_needs r c) (room_of limits (all_of r)))) refl refl refl
+write_cases limits r c agent sound = go (is_change c) (is_some (spliced (text_of (all_of r)) c)) (nat_lt (last_number r) (2 ^ 64)) (is_some (first_full (write_needs r c) (room_of limits (all_of r)))) refl refl refl
   where
     new : List UpdateView
     new = additions r c
 
-    go : (a b d e : Bool) → is_shaped c ≡ a → is_some (spliced (text_of (all_of r)) c) ≡ b → nat_lt (last_number r) (2 ^ 64) ≡ d
+    go : (a b d e : Bool) → is_change c ≡ a → is_some (spliced (text_of (all_of r)) c) ≡ b → nat_lt (last_number r) (2 ^ 64) ≡ d
         → (cond (a && (b && (d && not e))) (with_unsent r new) r ≡ with_unsent r new × AddsWell r new) ⊎ (cond (a && (b && (d && not e))) (with_unsent r new) r ≡ r)
     go false b d e f g h = inr refl
     go true false d e f g h = inr refl

@@ -34,12 +34,15 @@ frontier_few us = omega (arith, rising_within (heads_of (graph_of us)), length-f
 -- an update with which the counts are within the limits, and the history is legal, is answered New
 pub is_new : (H : List UpdateView) (u : UpdateView) → IsLegal H → IsLegal (H ++ u ∷ []) → length (H ++ u ∷ []) ≤ 524288 → length (elements_of (H ++ u ∷ [])) ≤ 33554432 → length (deletions_of (H ++ u ∷ [])) ≤ 67108864
     → answer_to (room_of (limits_with 1000000) H) H u ≡ New
-is_new H u legal more versions elements deletions = (new_exact (room_of (limits_with 1000000) H) H u legal f.named f.rising f.built).1 (more, record {
-  versions = let l = length-reverse H in let a = length-append H (u ∷ []) in omega (arith, l, a, versions);
-  elements = let g = elements_grow H u in omega (arith, g, elements);
-  deletions = let g = deletions_grow H u in omega (arith, g, deletions);
-  width = let w = width_after H u in let b = frontier_few (H ++ u ∷ []) in omega (arith, w, b, versions);
-})
+is_new H u legal more versions elements deletions = (new_exact (room_of (limits_with 1000000) H) H u legal f.named f.rising f.built).1 (
+  more,
+  record {
+    versions = let l = length-reverse H in let a = length-append H (u ∷ []) in omega (arith, l, a, versions);
+    elements = let g = elements_grow H u in omega (arith, g, elements);
+    deletions = let g = deletions_grow H u in omega (arith, g, deletions);
+    width = let w = width_after H u in let b = frontier_few (H ++ u ∷ []) in omega (arith, w, b, versions);
+  },
+)
   where
     f : MayFollow H u
     f = ((legal_more H u).0 more).1

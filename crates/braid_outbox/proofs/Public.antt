@@ -1,5 +1,5 @@
 -- The laws over lists of events, and of every sound replica.
-use Rattle.std.proofs.Common.{◌≡◌, ℕ, List, ◌++◌, Bool, inl, inr, reverse, subst, sym, take, length, arith, Some}
+use Rattle.std.proofs.Common.{◌≡◌, ℕ, List, [], ◌∷◌, ◌++◌, Bool, true, length-append, inl, inr, reverse, subst, sym, take, length, arith, Some}
 use Rattle.std.specs.List.{Contains, slice_get}
 use Rattle.std.proofs.lemmas.List.{take_all}
 use Rattle.braid_ids.specs.Agents.{IsAgent}
@@ -11,25 +11,27 @@ use Rattle.braid_tree.proofs.Member.{member_append_left, member_append_right, me
 use Rattle.braid_rebase.proofs.Members.{contains_member, member_contains}
 use Rattle.braid_text.specs.Histories.{graph_of, IsLegalLog, SameGraph}
 use Rattle.braid_text.specs.declared.room.Room.{Room}
-use Rattle.braid_text.proofs.Logs.{parents_held, legal_back, holds_has, Has}
+use Rattle.braid_text.proofs.Logs.{parents_held, legal_back, has_holds, holds_has, Has}
 use Rattle.braid_outbox.specs.declared.world.World.{World}
 use Rattle.braid_outbox.specs.declared.world.Side.{Side}
 use Rattle.braid_outbox.specs.declared.world.Posted.{Posted}
 use Rattle.braid_outbox.specs.declared.world.Event.{Event}
 use Rattle.braid_outbox.specs.Replicas.{ReplicaView, IsChained, IsSound, frontier}
-use Rattle.braid_outbox.specs.Writes.{additions, with_unsent, write}
+use Rattle.braid_outbox.specs.Replicas.{log_of}
+use Rattle.braid_outbox.specs.Writes.{additions, is_written, merges_of, last_number, next_in, updates_needed, with_unsent, write}
+use Rattle.braid_outbox.proofs.Written.{numbers_fit}
 use Rattle.braid_outbox.specs.Learns.{acked, learn}
 use Rattle.braid_outbox.specs.Worlds.{replica_of, kept_of, land_answer}
-use Rattle.braid_outbox.specs.Laws.{AreAgents, reached, IsClosed, IsPart, Keeps, IsAtEnd, IsTaken, CarriesWell, LosesNone}
-use Rattle.braid_outbox.proofs.Additions.{log_parts, write_cases}
+use Rattle.braid_outbox.specs.Laws.{AreAgents, reached, IsPart, Keeps, IsAtEnd, IsTaken, CarriesWell, LosesNone}
+use Rattle.braid_outbox.proofs.Additions.{log_parts, merges_counted, write_cases}
 use Rattle.braid_outbox.proofs.Moves.{Moves, learn_moves, acked_cases, to_log, of_log}
 use Rattle.braid_outbox.proofs.Good.{GoodSide, GoodWorld}
 use Rattle.braid_outbox.proofs.Steps.{run_good, start_good}
 use Rattle.braid_outbox.proofs.Caught.{at_end, below_frontier}
 use Rattle.braid_outbox.proofs.Landing.{land_taken, carry_taken}
 
-closed_log : (C : List UpdateView) → IsLegalLog (reverse C) → IsClosed C
-closed_log C legal u c p d = let h = parents_held (reverse C) legal u (to_log C u (contains_member C u c)) p (contains_member u.parents p d) in (h.0, member_contains C h.0 (of_log C h.0 h.1), h.2)
+closed_log : (C : List UpdateView) → IsLegalLog (reverse C) → (u : UpdateView) → Contains C u → HoldsAll (graph_of C) u.parents
+closed_log C legal u c p d = let h = parents_held (reverse C) legal u (to_log C u (contains_member C u c)) p (contains_member u.parents p d) in has_holds C p (h.0, of_log C h.0 h.1, h.2)
 
 keeps_of : (H : List UpdateView) (r : ReplicaView) → IsLegalLog (reverse (r.confirmed ++ r.unsent)) → IsChained r.unsent → ((x : UpdateView) → Member x r.confirmed → Member x H) → Keeps H r
 keeps_of H r legal chained part = record {
@@ -107,3 +109,8 @@ write_law limits r agent sound c = elim (write_cases limits r c agent sound) [
       | inl a ↦ member_append_left u r.confirmed (r.unsent ++ new) a
       | inr b ↦ member_append_right u r.confirmed (r.unsent ++ new) (member_append_left u r.unsent new b)
     ])
+
+-- a write adds as many updates as are counted before
+pub counted_law : (limits : Room) (r : ReplicaView) → IsAgent r.agent → IsSound r → (c : Change) → is_written limits r c ≡ true → length (additions r c) ≡ updates_needed r
+counted_law limits r agent sound c due = let small = numbers_fit limits r c due in let us = reverse (merges_of r) ++ log_of r in
+    omega (arith, length-append (merges_of r) (next_in r.agent us (frontier us) c ∷ []), merges_counted r agent sound (omega (arith, small)))

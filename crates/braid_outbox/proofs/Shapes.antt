@@ -17,7 +17,7 @@ use Rattle.braid_tree.proofs.Member.{all_member, all_from_members}
 use Rattle.braid_tree.proofs.Keys.{ids_strict}
 use Rattle.braid_text.proofs.Whole.{and_cases}
 use Rattle.braid_text.proofs.Same.{and_true}
-use Rattle.braid_outbox.specs.Shapes.{are_listed, are_numbered, have_scalars, are_scalars, is_shaped, are_printable, is_identifier, is_rising, is_update}
+use Rattle.braid_outbox.specs.Shapes.{are_listed, are_numbered, have_scalars, are_scalars, is_change, are_printable, is_identifier, is_rising, is_update}
 
 -- what is asked of an update here: its name is an identifier, its parents rise, and it is built
 pub record IsProper (u : UpdateView) : Type 0 where
@@ -75,7 +75,7 @@ scalars_to (Body x) h = h
 scalars_to (Patches ps) h = texts_to ps h
 
 -- a change that passes the test has its shape and is of scalar values, and no other
-pub shaped_from : (c : Change) → is_shaped c ≡ true → IsShaped c × AreScalars c
+pub shaped_from : (c : Change) → is_change c ≡ true → IsShaped c × AreScalars c
 shaped_from c h =
     let ps : List Patch = patches_of c in
     let a = and_cases (nat_le (length ps) 1000) (are_listed 0 ps && (nat_le (content_len c) 1048576 && (are_numbered ps && are_scalars c))) h in
@@ -86,7 +86,7 @@ shaped_from c h =
       scalars_from c e.1,
     )
 
-pub shaped_to : (c : Change) → IsShaped c → AreScalars c → is_shaped c ≡ true
+pub shaped_to : (c : Change) → IsShaped c → AreScalars c → is_change c ≡ true
 shaped_to c s t =
     let ps : List Patch = patches_of c in
     and_true (nat_le (length ps) 1000) (are_listed 0 ps && (nat_le (content_len c) 1048576 && (are_numbered ps && are_scalars c))) (le_to (length ps) 1000 s.few)
@@ -94,7 +94,7 @@ shaped_to c s t =
     (and_true (nat_le (content_len c) 1048576) (are_numbered ps && are_scalars c) (le_to (content_len c) 1048576 s.short)
     (and_true (are_numbered ps) (are_scalars c) (numbered_to ps s.numbered) (scalars_to c t))))
 
-pub built_from : (parents : List (List ℕ)) (c : Change) → length parents ≤ 32 → is_shaped c ≡ true → IsBuilt parents c
+pub built_from : (parents : List (List ℕ)) (c : Change) → length parents ≤ 32 → is_change c ≡ true → IsBuilt parents c
 built_from parents c few h = let s = shaped_from c h in record { few_parents = few; shaped = s.0; scalar = s.1 }
 
 printable_from : (bs : List ℕ) → are_printable bs ≡ true → (k : ℕ) → k < length bs → IsPrintable (get_or bs k 0)
@@ -125,7 +125,7 @@ rising_from (v ∷ w ∷ ws) h = let p = and_cases (is_lt (id_cmp v w)) (is_risi
 -- an update that passes the test is so
 pub update_from : (u : UpdateView) → is_update u ≡ true → IsProper u
 update_from u h =
-    let a = and_cases (is_identifier u.id) (is_rising u.parents && (nat_le (length u.parents) 32 && is_shaped u.change)) h in
-    let b = and_cases (is_rising u.parents) (nat_le (length u.parents) 32 && is_shaped u.change) a.1 in
-    let c = and_cases (nat_le (length u.parents) 32) (is_shaped u.change) b.1 in
+    let a = and_cases (is_identifier u.id) (is_rising u.parents && (nat_le (length u.parents) 32 && is_change u.change)) h in
+    let b = and_cases (is_rising u.parents) (nat_le (length u.parents) 32 && is_change u.change) a.1 in
+    let c = and_cases (nat_le (length u.parents) 32) (is_change u.change) b.1 in
     record { named = identifier_from u.id a.0; rising = rising_from u.parents b.0; built = built_from u.parents u.change (le_from (length u.parents) 32 c.0) c.1 }

@@ -36,7 +36,7 @@ use Rattle.braid_text.specs.declared.accept.Accept.{Accept}
 use Rattle.braid_text.proofs.Public.{frontier_log, needs_elements, needs_deletions, document_counted}
 use Rattle.braid_text.proofs.Same.{and_true}
 use Rattle.braid_text.proofs.Whole.{and_cases}
-use Rattle.braid_outbox.specs.Shapes.{is_shaped}
+use Rattle.braid_outbox.specs.Shapes.{is_change}
 use Rattle.braid_outbox.specs.Replicas.{ReplicaView, IsSound, all_of, log_of, frontier, number, greatest_number, replica_limits}
 use Rattle.braid_outbox.specs.Writes.{next_in, last_id, merged_of, merge_parents, merges_in, merges_of, merges_needed, next_merge, updates_needed, last_number, write_needs, is_written, additions, with_unsent, write, Fits, AddsMerges}
 use Rattle.braid_outbox.proofs.Shapes.{lt_to, lt_from, shaped_from}
@@ -172,7 +172,7 @@ pub written_is : (limits : Room) (r q : ReplicaView) (c : Change) → is_written
 written_is limits r q c due e = e ∙ sym (ap (λ (b : Bool). cond b (with_unsent r (additions r c)) r) due)
 
 pub numbers_fit : (limits : Room) (r : ReplicaView) (c : Change) → is_written limits r c ≡ true → last_number r < 2 ^ 64
-numbers_fit limits r c due = lt_from (last_number r) (2 ^ 64) (and_cases n f (and_cases s (n && f) (and_cases (is_shaped c) (s && (n && f)) due).1).1).0
+numbers_fit limits r c due = lt_from (last_number r) (2 ^ 64) (and_cases n f (and_cases s (n && f) (and_cases (is_change c) (s && (n && f)) due).1).1).0
   where
     s : Bool
     s = is_some (spliced (text_of (all_of r)) c)
@@ -183,8 +183,8 @@ numbers_fit limits r c due = lt_from (last_number r) (2 ^ 64) (and_cases n f (an
     f : Bool
     f = not (is_some (first_full (write_needs r c) (room_of limits (all_of r))))
 
-pub is_due : (limits : Room) (r : ReplicaView) (c : Change) → is_shaped c ≡ true → IsSome (spliced (text_of (all_of r)) c) → last_number r < 2 ^ 64 → first_full (write_needs r c) (room_of limits (all_of r)) ≡ None → is_written limits r c ≡ true
-is_due limits r c shaped fits small none = and_true (is_shaped c) (s && (n && f)) shaped (and_true s (n && f) fits (and_true n f (lt_to (last_number r) (2 ^ 64) small) (ap (λ (o : Option Accept). not (is_some o)) none)))
+pub is_due : (limits : Room) (r : ReplicaView) (c : Change) → is_change c ≡ true → IsSome (spliced (text_of (all_of r)) c) → last_number r < 2 ^ 64 → first_full (write_needs r c) (room_of limits (all_of r)) ≡ None → is_written limits r c ≡ true
+is_due limits r c shaped fits small none = and_true (is_change c) (s && (n && f)) shaped (and_true s (n && f) fits (and_true n f (lt_to (last_number r) (2 ^ 64) small) (ap (λ (o : Option Accept). not (is_some o)) none)))
   where
     s : Bool
     s = is_some (spliced (text_of (all_of r)) c)
@@ -280,7 +280,7 @@ text_few r few = omega (arith, few, text_short (all_of r) (frontier (all_of r)))
 pub change_inserts : (r : ReplicaView) (c : Change) (rs : List Patch) (n : ℕ) → ranges (text_of (all_of r)) c ≡ Some rs → n ≡ inserted rs → n ≡ (write_needs r c).elements
 change_inserts r c rs n e f = f ∙ sym (needs_elements (all_of r) (next_in r.agent (log_of r) (frontier (all_of r)) c) ∙ ap (λ (o : Option (List Patch)). inserted (unwrap_or o [])) e)
 
-pub change_removes : (r : ReplicaView) (c : Change) (rs : List Patch) (n : ℕ) → is_shaped c ≡ true → ranges (text_of (all_of r)) c ≡ Some rs → n ≡ removed rs → n ≡ (write_needs r c).deletions
+pub change_removes : (r : ReplicaView) (c : Change) (rs : List Patch) (n : ℕ) → is_change c ≡ true → ranges (text_of (all_of r)) c ≡ Some rs → n ≡ removed rs → n ≡ (write_needs r c).deletions
 change_removes r c rs n shaped e f = f ∙ sym (needs_deletions (all_of r) (next_in r.agent (log_of r) (frontier (all_of r)) c) (shaped_from c shaped).0 ∙ ap (λ (o : Option (List Patch)). removed (unwrap_or o [])) e)
 
 pub has_splice : (t : List ℕ) (c : Change) (rs : List Patch) → ranges t c ≡ Some rs → IsSome (spliced t c)

@@ -3,6 +3,8 @@ use Rattle.std.specs.Prelude.{◌≡◌, ◌≢◌, ◌≤◌, ℕ, List, [], �
 use Rattle.std.specs.List.{AllByRecursion}
 use Rattle.braid_ids.specs.Agents.{IsAgent}
 use Rattle.braid_change.specs.Updates.{UpdateView}
+use Rattle.braid_graph.specs.Entries.{HoldsAll}
+use Rattle.braid_text.specs.Histories.{graph_of}
 use Rattle.braid_text.specs.Sent.{sent}
 use Rattle.braid_text.specs.declared.room.Room.{Room}
 use Rattle.braid_text.specs.declared.accept.Accept.{Accept}
@@ -29,10 +31,6 @@ pub record AreAgents (agents : List (List ℕ)) : Type 0 where
 abbrev pub reached : Room → List (List ℕ) → List Event → World
 reached limits agents events = run limits events (start agents)
 
--- each parent of an update is the name of an update of the list
-abbrev pub IsClosed : List UpdateView → Type 0
-IsClosed H = (u : UpdateView) → Contains H u → (p : List ℕ) → Contains u.parents p → (w : UpdateView) × Contains H w × (w.id ≡ p)
-
 -- each update of the first list is in the second
 abbrev pub IsPart : List UpdateView → List UpdateView → Type 0
 IsPart C H = (u : UpdateView) → Contains C u → Contains H u
@@ -40,7 +38,7 @@ IsPart C H = (u : UpdateView) → Contains C u → Contains H u
 -- a replica beside a history: it is sound, and its confirmed updates have their parents and are a part of the history
 pub record Keeps (H : List UpdateView) (r : ReplicaView) : Type 0 where
   pub sound : IsSound r
-  pub closed : IsClosed r.confirmed
+  pub closed : (u : UpdateView) → Contains r.confirmed u → HoldsAll (graph_of r.confirmed) u.parents
   pub part : IsPart r.confirmed H
 
 -- a subscription has carried all that is sent past its frontier

@@ -30,8 +30,8 @@ are_scalars (Body text) = all_scalars text
 are_scalars (Patches patches) = have_scalars patches
 
 -- a change has the shape that an update may have, and its texts are scalar values
-abbrev pub is_shaped : Change → Bool
-is_shaped c =
+abbrev pub is_change : Change → Bool
+is_change c =
     nat_le (length (patches_of c)) 1_000 && (are_listed 0 (patches_of c) && (nat_le (content_len c) 1_048_576 && (are_numbered (patches_of c) && are_scalars c)))
 
 -- bytes from space to tilde
@@ -51,4 +51,4 @@ is_rising (v ∷ w ∷ ws) = is_lt (id_cmp v w) && is_rising (w ∷ ws)
 
 -- an update is one as the program has them
 abbrev pub is_update : UpdateView → Bool
-is_update u = is_identifier u.id && (is_rising u.parents && (nat_le (length u.parents) 32 && is_shaped u.change))
+is_update u = is_identifier u.id && (is_rising u.parents && (nat_le (length u.parents) 32 && is_change u.change))

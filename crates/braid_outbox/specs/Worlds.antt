@@ -100,14 +100,14 @@ carries_from limits H s (Some rd) = learns limits s rd (slice_get (sent H rd.fro
 abbrev pub carries : Room → List UpdateView → Side → Side
 carries limits H s = carries_from limits H s s.reading
 
--- the replica holds an update of this identifier
-abbrev pub holds : List ℕ → ReplicaView → Bool
-holds v r = is_some (find_in v r.confirmed) || is_some (find_in v r.unsent)
+-- the replica has an update of this identifier, confirmed or unsent
+abbrev pub has_update : List ℕ → ReplicaView → Bool
+has_update v r = is_some (find_in v r.confirmed) || is_some (find_in v r.unsent)
 
 -- the first of these updates is made a PUT, where the kept copy holds it
 abbrev pub posts_first : ℕ → Side → List UpdateView → World → World
 posts_first k s [] w = w
-posts_first k s (u ∷ us) w = if holds u.id (kept_of s)
+posts_first k s (u ∷ us) w = if has_update u.id (kept_of s)
     then record { history = w.history; sides = w.sides; puts = w.puts ++ record { by = k; update = u } ∷ []; replies = w.replies }
     else w
 

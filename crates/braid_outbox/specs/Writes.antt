@@ -16,7 +16,7 @@ use Rattle.braid_text.specs.declared.room.Which.{Which}
 use Rattle.braid_text.specs.declared.room.Which.TheVariants.{Resources, Versions, Elements, Deletions, Width}
 use Rattle.braid_outbox.specs.declared.faults.WriteFault.{WriteFault}
 use Rattle.braid_outbox.specs.declared.faults.WriteFault.TheVariants.{Shape, OutOfRange, NumbersSpent, Full, Memory}
-use Rattle.braid_outbox.specs.Shapes.{is_shaped}
+use Rattle.braid_outbox.specs.Shapes.{is_change}
 use Rattle.braid_outbox.specs.Replicas.{ReplicaView, all_of, log_of, frontier, greatest_number}
 
 -- the agent's next update, which has the number after its greatest one
@@ -79,7 +79,7 @@ write_needs r c =
 -- whether a change is written: it has its shape, it has a splice on the replica's text, the numbers suffice, and there is room
 abbrev pub is_written : Room → ReplicaView → Change → Bool
 is_written limits r c =
-    is_shaped c
+    is_change c
     && (is_some (spliced (text_of (all_of r)) c)
     && (nat_lt (last_number r) (2 ^ 64)
     && not (is_some (first_full (write_needs r c) (room_of limits (all_of r))))))

@@ -22,7 +22,9 @@ pub struct Counts {
 /// Errors: `OutOfRange` with the first joined patch that ends past the text, or `Memory`.
 pub fn counts_of(alloc: Global, change: &Change, len: u32) -> Result<Counts, SpliceFault>
     requires shaped { IsShaped change.now }
-    ensures ok { IfOk result (λ counts. (t : List ℕ) → length t ≡ len → (rs : List Patch) × (ranges t change.now ≡ Some rs) × (counts.inserted ≡ inserted rs) × (counts.removed ≡ removed rs)) }
+    ensures ok { IfOk result (λ counts. (t : List ℕ) → length t ≡ len →
+        (rs : List Patch) × (ranges t change.now ≡ Some rs) × (counts.inserted ≡ inserted rs)
+        × (counts.removed ≡ removed rs)) }
     ensures fault { IfErr result (λ fault. (t : List ℕ) → length t ≡ len → IsSpliceFault t change.now fault) }
 {
     match change {
@@ -35,14 +37,13 @@ pub fn counts_of(alloc: Global, change: &Change, len: u32) -> Result<Counts, Spl
 }
 
 /// The same of patches, which are joined first.
-fn counts_of_patches(
-    alloc: Global,
-    patches: &[Patch],
-    len: u32,
-) -> Result<Counts, SpliceFault>
+fn counts_of_patches(alloc: Global, patches: &[Patch], len: u32) -> Result<Counts, SpliceFault>
     requires shaped { IsShaped (Patches patches.now) }
-    ensures ok { IfOk result (λ counts. (t : List ℕ) → length t ≡ len → (rs : List Patch) × (ranges t (Patches patches.now) ≡ Some rs) × (counts.inserted ≡ inserted rs) × (counts.removed ≡ removed rs)) }
-    ensures fault { IfErr result (λ fault. (t : List ℕ) → length t ≡ len → IsSpliceFault t (Patches patches.now) fault) }
+    ensures ok { IfOk result (λ counts. (t : List ℕ) → length t ≡ len →
+        (rs : List Patch) × (ranges t (Patches patches.now) ≡ Some rs) × (counts.inserted ≡ inserted rs)
+        × (counts.removed ≡ removed rs)) }
+    ensures fault { IfErr result (λ fault. (t : List ℕ) → length t ≡ len →
+        IsSpliceFault t (Patches patches.now) fault) }
 {
     let Ok(list) = joined(alloc, patches) else {
         return Err(SpliceFault::Memory);

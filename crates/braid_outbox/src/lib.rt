@@ -29,8 +29,8 @@ pub use learn::Learn;
 pub use replica::Replica;
 
 #[cfg(test)]
+mod making_tests;
+#[cfg(test)]
 mod tests;
 #[cfg(test)]
 mod write_tests;
-#[cfg(test)]
-mod making_tests;

@@ -18,9 +18,15 @@ impl Replica {
     ///
     /// Errors: `Entry` with the first entry that is not legal after those before it, passes a limit, or is unsent and
     /// does not name the unsent one before it; with the last entry where the frontier is too wide; or `Memory`.
-    pub fn of(alloc: Global, agent: Agent, confirmed: Vec<Update>, unsent: Vec<Update>) -> Result<Replica, BadReplica>
+    pub fn of(
+        alloc: Global,
+        agent: Agent,
+        confirmed: Vec<Update>,
+        unsent: Vec<Update>,
+    ) -> Result<Replica, BadReplica>
         requires counted { length confirmed.items + length unsent.items < 2 ^ 32 }
-        ensures ok { IfOk result (λ replica. replica ≡ record { agent = agent; confirmed = confirmed.items; unsent = unsent.items }) }
+        ensures ok { IfOk result (λ replica. replica ≡ record
+            { agent = agent; confirmed = confirmed.items; unsent = unsent.items }) }
         ensures made { OnOk result (MakesReplica confirmed.items unsent.items) }
         ensures fault { IfErr result (λ fault. IsBadReplica confirmed.items unsent.items fault) }
     {
@@ -56,7 +62,8 @@ impl Replica {
     fn load_unsent(&mut self, alloc: Global, updates: &[Update]) -> Result<(), BadReplica>
         requires none { self.old.unsent ≡ [] }
         requires counted { length self.old.confirmed + length updates.now < 2 ^ 32 }
-        ensures ok { OnOk result (self.new ≡ record { agent = self.old.agent; confirmed = self.old.confirmed; unsent = updates.now }) }
+        ensures ok { OnOk result (self.new ≡ record
+            { agent = self.old.agent; confirmed = self.old.confirmed; unsent = updates.now }) }
         ensures fault { IfErr result (λ fault. IsFirstFault self.old.confirmed updates.now fault) }
     {
         let base = self.confirmed();
@@ -75,7 +82,8 @@ impl Replica {
     /// Errors: `Memory` where there was none.
     fn takes_confirmed(&mut self, alloc: Global, update: &Update) -> Result<bool, Memory>
         requires none { self.old.unsent ≡ [] }
-        ensures taken { result ≡ Ok true → self.new ≡ record { agent = self.old.agent; confirmed = self.old.confirmed ++ update.now ∷ []; unsent = [] } }
+        ensures taken { result ≡ Ok true → self.new ≡ record
+            { agent = self.old.agent; confirmed = self.old.confirmed ++ update.now ∷ []; unsent = [] } }
         ensures fine { IsFine self.old.confirmed [] }
         ensures refused { result ≡ Ok false → IsFine (self.old.confirmed ++ update.now ∷ []) [] → ⊥ }
     {
@@ -115,7 +123,8 @@ impl Replica {
 
     /// Whether an update names the last unsent one among its parents, where there is one.
     fn is_chained(&self, update: &Update) -> bool
-        ensures chained { IsTrue result ↔ ((v : List ℕ) → last_id self.now.unsent ≡ Some v → Contains update.now.parents v) }
+        ensures chained { IsTrue result ↔ ((v : List ℕ) → last_id self.now.unsent ≡ Some v →
+            Contains update.now.parents v) }
     {
         match self.last() {
             Some(last) => update.parents().holds(last),

@@ -73,12 +73,24 @@ fn two_lists_make_a_replica_or_name_an_entry(rt: HostRuntime) -> Result<(), Fail
     let second = make_line("p-1", "x-1", Edit::Patch(1, 1, "P"));
     let own = make_line("a-1", "p-1", Edit::Nothing);
     let rows = [
-        bad_entry(alloc, &[first, second], &[own, make_line("a-2", "a-1", Edit::Nothing)])? == None,
+        bad_entry(
+            alloc,
+            &[first, second],
+            &[own, make_line("a-2", "a-1", Edit::Nothing)],
+        )? == None,
         bad_entry(alloc, &[first, second, first], &[])? == Some(2),
         bad_entry(alloc, &[second, first], &[])? == Some(0),
-        bad_entry(alloc, &[first, make_line("y-1", "x-1", Edit::Patch(0, 3, "J"))], &[])? == Some(1),
+        bad_entry(
+            alloc,
+            &[first, make_line("y-1", "x-1", Edit::Patch(0, 3, "J"))],
+            &[],
+        )? == Some(1),
         bad_entry(alloc, &[first], &[own])? == Some(1),
-        bad_entry(alloc, &[first, second], &[own, make_line("a-2", "p-1", Edit::Nothing)])? == Some(3),
+        bad_entry(
+            alloc,
+            &[first, second],
+            &[own, make_line("a-2", "p-1", Edit::Nothing)],
+        )? == Some(3),
     ];
     check(
         rows[0] && rows[1] && rows[2] && rows[3] && rows[4] && rows[5],
@@ -114,7 +126,12 @@ fn carries(alloc: Global, book: &Replica, n: u32, to: &mut Replica) -> Result<Le
 }
 
 /// A replica's first unsent version lands, its reply is lost, it lands again, and is acknowledged.
-fn lands_twice(alloc: Global, from: &mut Replica, book: &mut Replica, id: &Id) -> Result<bool, Fail> {
+fn lands_twice(
+    alloc: Global,
+    from: &mut Replica,
+    book: &mut Replica,
+    id: &Id,
+) -> Result<bool, Fail> {
     let first = posts(alloc, from, book)?;
     let again = posts(alloc, from, book)?;
     let acked = from.acked(id);
@@ -122,7 +139,12 @@ fn lands_twice(alloc: Global, from: &mut Replica, book: &mut Replica, id: &Id) -
 }
 
 /// A replica reads the first two entries of the book.
-fn reads_two(alloc: Global, book: &Replica, to: &mut Replica, wants: [Want<'_>; 2]) -> Result<bool, Fail> {
+fn reads_two(
+    alloc: Global,
+    book: &Replica,
+    to: &mut Replica,
+    wants: [Want<'_>; 2],
+) -> Result<bool, Fail> {
     let first = carries(alloc, book, 0, to)?;
     let second = carries(alloc, book, 1, to)?;
     Ok(is_answer(&first, wants[0]) && is_answer(&second, wants[1]))
@@ -131,7 +153,12 @@ fn reads_two(alloc: Global, book: &Replica, to: &mut Replica, wants: [Want<'_>; 
 /// The replica that its two lists make once more.
 fn goes_back(alloc: Global, from: &Replica, name: &[u8]) -> Result<Replica, Fail> {
     let confirmed = entries(alloc, from, 0, from.confirmed())?;
-    let unsent = entries(alloc, from, from.confirmed(), from.confirmed() + from.unsent())?;
+    let unsent = entries(
+        alloc,
+        from,
+        from.confirmed(),
+        from.confirmed() + from.unsent(),
+    )?;
     if confirmed.len() > 9_999 || unsent.len() > 9_999 {
         return Err("too many updates".into());
     }
@@ -169,7 +196,8 @@ fn replicas_catch_up_with_a_book(rt: HostRuntime) -> Result<(), Fail> {
     let (mut a, one) = writer(alloc, b"a", "hi")?;
     let (kept, two) = writer(alloc, b"b", "yo")?;
     let mut b = goes_back(alloc, &kept, b"b")?;
-    let landed = lands_twice(alloc, &mut a, &mut book, &one)? && lands_twice(alloc, &mut b, &mut book, &two)?;
+    let landed = lands_twice(alloc, &mut a, &mut book, &one)?
+        && lands_twice(alloc, &mut b, &mut book, &two)?;
     let read = reads_two(alloc, &book, &mut a, [Want::Known, Want::New])?
         && reads_two(alloc, &book, &mut b, [Want::New, Want::Known])?;
     let equal = has_digest(alloc, &a, &book)? && has_digest(alloc, &b, &book)?;

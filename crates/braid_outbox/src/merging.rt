@@ -60,7 +60,12 @@ impl Replica {
     /// members.
     ///
     /// Errors: `Memory` where there was none. The merges that were added already stay.
-    pub(crate) fn add_merges(&mut self, alloc: Global, count: u64, number: u64) -> Result<(), Memory>
+    pub(crate) fn add_merges(
+        &mut self,
+        alloc: Global,
+        count: u64,
+        number: u64,
+    ) -> Result<(), Memory>
         requires count { count ≡ merges_needed (length (frontier (all_of self.old))) }
         requires number { number ≡ 1 + greatest_number self.old.agent (log_of self.old) }
         requires numbers { number + count < 2 ^ 64 }
@@ -109,7 +114,8 @@ impl Replica {
 
     /// The parents of the next pure merge: the last unsent update, where there is one, and the least of the others.
     fn merge_parents(&self, alloc: Global) -> Result<Frontier, Memory>
-        ensures ok { IfOk result (λ parents. parents ≡ merge_parents (last_id self.now.unsent) (frontier (log_of self.now))) }
+        ensures ok { IfOk result (λ parents. parents ≡ merge_parents (last_id self.now.unsent) (frontier
+            (log_of self.now))) }
     {
         let frontier = self.frontier(alloc)?;
         let ids = self.merged_ids(alloc, &frontier)?;
@@ -144,7 +150,8 @@ impl Replica {
 
 /// An identifier, and the 31 least other members of a frontier, or all others where there are fewer.
 fn merged(alloc: Global, last: &Id, of: &Frontier) -> Result<Vec<Id>, Memory>
-    ensures ok { IfOk result (λ ids. ids.items ≡ last.now ∷ take 31 (filter (λ (w : List ℕ). not (is_eq (id_cmp last.now w))) of.now)) }
+    ensures ok { IfOk result (λ ids. ids.items ≡ last.now ∷ take 31 (filter (λ (w : List ℕ). not (is_eq
+        (id_cmp last.now w))) of.now)) }
     ensures few { IfOk result (λ ids. vec_len ids ≤ 32) }
 {
     let mut ids = Vec::new(alloc);
@@ -161,7 +168,8 @@ fn merged(alloc: Global, last: &Id, of: &Frontier) -> Result<Vec<Id>, Memory>
 
 /// Pushes an identifier, where it is not that of the last unsent update.
 fn push_other(alloc: Global, ids: &mut Vec<Id>, id: &Id, last: &Id) -> Result<(), Memory>
-    ensures ok { OnOk result (ids.new.items ≡ ids.old.items ++ filter (λ (w : List ℕ). not (is_eq (id_cmp last.now w))) (id.now ∷ [])) }
+    ensures ok { OnOk result (ids.new.items ≡ ids.old.items ++ filter (λ (w : List ℕ). not (is_eq
+        (id_cmp last.now w))) (id.now ∷ [])) }
 {
     if id != last {
         ids.push(id.copy(alloc)?)?;

@@ -50,7 +50,8 @@ impl Order {
         requires split { self.old.confirmed ≤ length self.old.numbers.items }
         requires room { vec_len self.old.numbers < vec_capacity self.old.numbers }
         requires flag { vec_len self.old.flags < vec_capacity self.old.flags }
-        ensures numbers { self.new.numbers.items ≡ take self.old.confirmed self.old.numbers.items ++ length self.old.numbers.items ∷ drop self.old.confirmed self.old.numbers.items }
+        ensures numbers { self.new.numbers.items ≡ take self.old.confirmed self.old.numbers.items
+            ++ length self.old.numbers.items ∷ drop self.old.confirmed self.old.numbers.items }
         ensures flags { self.new.flags.items ≡ self.old.flags.items ++ true ∷ [] }
         ensures confirmed { self.new.confirmed ≡ self.old.confirmed + 1 }
     {
@@ -78,10 +79,12 @@ impl Order {
     /// The number of the first unsent update is now that of the newest confirmed one. It takes no memory.
     pub fn confirm_first(&mut self)
         requires some { self.old.confirmed < length self.old.numbers.items }
-        requires within { IfSome (slice_get self.old.numbers.items self.old.confirmed) (λ n. n < length self.old.flags.items) }
+        requires within { IfSome (slice_get self.old.numbers.items self.old.confirmed)
+            (λ n. n < length self.old.flags.items) }
         requires few { length self.old.numbers.items < 2 ^ 31 }
         ensures numbers { self.new.numbers.items ≡ self.old.numbers.items }
-        ensures flags { IfSome (slice_get self.old.numbers.items self.old.confirmed) (λ n. self.new.flags.items ≡ slice_set self.old.flags.items n true) }
+        ensures flags { IfSome (slice_get self.old.numbers.items self.old.confirmed) (λ n. self.new.flags.items
+            ≡ slice_set self.old.flags.items n true) }
         ensures confirmed { self.new.confirmed ≡ self.old.confirmed + 1 }
     {
         let number = self.numbers[self.confirmed as usize];

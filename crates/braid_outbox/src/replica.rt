@@ -128,8 +128,14 @@ impl Replica {
     /// Takes an update to the end of the confirmed ones, or says why not. Its parents are confirmed.
     pub(crate) fn add_confirmed(&mut self, alloc: Global, update: Update, width: u64) -> Accept
         requires parents { HoldsAll (graph_of self.old.confirmed) update.parents }
-        ensures answer { result ≢ NoMemory → result ≡ answer_to (room_of (limits_with width) (all_of self.old)) (all_of self.old) update }
-        ensures taken { result ≡ New → self.new ≡ record { agent = self.old.agent; confirmed = self.old.confirmed ++ update ∷ []; unsent = self.old.unsent } }
+        ensures answer { result ≢ NoMemory → result ≡ answer_to (room_of (limits_with width) (all_of self.old))
+            (all_of self.old) update }
+        ensures taken { result ≡ New → self.new ≡ record {
+          agent = self.old.agent;
+          confirmed = self.old.confirmed
+              ++ update ∷ [];
+          unsent = self.old.unsent;
+        } }
         ensures kept { result ≢ New → self.new ≡ self.old }
     {
         read_parents(&update);
@@ -149,7 +155,8 @@ impl Replica {
     /// Takes an update to the end of the unsent ones, or says why not. It names the last unsent one, where there is one.
     pub(crate) fn add_unsent(&mut self, alloc: Global, update: Update, width: u64) -> Accept
         requires chained { (v : List ℕ) → last_id self.old.unsent ≡ Some v → Contains update.parents v }
-        ensures answer { result ≢ NoMemory → result ≡ answer_to (room_of (limits_with width) (all_of self.old)) (all_of self.old) update }
+        ensures answer { result ≢ NoMemory → result ≡ answer_to (room_of (limits_with width) (all_of self.old))
+            (all_of self.old) update }
         ensures taken { result ≡ New → self.new ≡ with_unsent self.old (update ∷ []) }
         ensures kept { result ≢ New → self.new ≡ self.old }
     {

@@ -36,7 +36,12 @@ pub struct Offer<'a> {
     want: Want<'a>,
 }
 
-pub fn make_offer<'a>(name: &'a str, parents: &'a str, edit: Edit<'a>, want: Want<'a>) -> Offer<'a> {
+pub fn make_offer<'a>(
+    name: &'a str,
+    parents: &'a str,
+    edit: Edit<'a>,
+    want: Want<'a>,
+) -> Offer<'a> {
     Offer {
         name,
         parents,

@@ -1,7 +1,7 @@
 //! What a replica writes, and how it goes on with a book.
 
 use super::*;
-use crate::tests::{Edit, change_of, check, names_of, make_offer, Want, given};
+use crate::tests::{Edit, Want, change_of, check, given, make_offer, names_of};
 use braid_change::{BuildFault, Update};
 use braid_ids::{Agent, Frontier, Id};
 use std::alloc::Global;
@@ -100,7 +100,12 @@ fn a_write_is_refused_before_it_adds_anything(rt: HostRuntime) -> Result<(), Fai
     ];
     let mut replica = given(alloc, &rows)?;
     let shape = is_refusal(alloc, &mut replica, Edit::Patch(2, 1, "J"), Refusal::Shape)?;
-    let past = is_refusal(alloc, &mut replica, Edit::Patch(0, 3, "J"), Refusal::Past(0, 2))?;
+    let past = is_refusal(
+        alloc,
+        &mut replica,
+        Edit::Patch(0, 3, "J"),
+        Refusal::Past(0, 2),
+    )?;
     let spent = is_refusal(alloc, &mut replica, Edit::Patch(0, 2, "J"), Refusal::Spent)?;
     check(shape && past && spent, "the refusals")
 }

@@ -6,7 +6,7 @@ ghost use Rattle.braid_change.specs.Changes.{patches_of};
 ghost use Rattle.braid_change.specs.Splices.{spliced};
 ghost use Rattle.braid_text.specs.Histories.{text_of};
 ghost use Rattle.braid_text.specs.Answers.{IsOver, first_full};
-ghost use Rattle.braid_outbox.specs.Shapes.{is_shaped};
+ghost use Rattle.braid_outbox.specs.Shapes.{is_change};
 ghost use Rattle.braid_outbox.specs.Replicas.{all_of, log_of, frontier, greatest_number, replica_limits};
 ghost use Rattle.braid_outbox.specs.Writes.{AddsMerges, IsWriteFault, is_written, last_number, merges_needed, next_in, with_unsent, write, write_needs};
 ghost use Rattle.braid_outbox.specs.declared.faults.WriteFault.TheVariants.{Memory as NoMemory};
@@ -67,7 +67,7 @@ impl Replica {
     fn draft(&self, alloc: Global, change: Change) -> Result<Update, WriteFault>
         requires counted { length (patches_of change) < 2 ^ 32 }
         ensures ok { IfOk result (λ draft. draft.change ≡ change) }
-        ensures shaped { OnOk result (is_shaped change ≡ true) }
+        ensures shaped { OnOk result (is_change change ≡ true) }
         ensures fault { IfErr result (λ fault. IsWriteFault replica_limits self.now change fault) }
     {
         let Ok(id) = self.agent.name(alloc, 1) else {
@@ -84,7 +84,7 @@ impl Replica {
 
     /// The numbers and the pure merges that a change takes, where it is written.
     fn plan(&self, alloc: Global, change: &Change) -> Result<Plan, WriteFault>
-        requires shaped { is_shaped change.now ≡ true }
+        requires shaped { is_change change.now ≡ true }
         ensures merges { IfOk result (λ plan. plan.merges ≡ merges_needed (length (frontier (all_of self.now)))) }
         ensures number { IfOk result (λ plan. plan.number ≡ 1 + greatest_number self.now.agent (log_of self.now)) }
         ensures due { OnOk result (is_written replica_limits self.now change.now ≡ true) }
@@ -118,7 +118,7 @@ impl Replica {
 
     /// How many characters a change inserts into the text and deletes from it.
     fn counts(&self, alloc: Global, change: &Change) -> Result<Counts, WriteFault>
-        requires shaped { is_shaped change.now ≡ true }
+        requires shaped { is_change change.now ≡ true }
         ensures elements { IfOk result (λ counts. counts.inserted ≡ (write_needs self.now change.now).elements) }
         ensures deletions { IfOk result (λ counts. counts.removed ≡ (write_needs self.now change.now).deletions) }
         ensures fits { OnOk result (IsSome (spliced (text_of (all_of self.now)) change.now)) }
@@ -142,10 +142,11 @@ impl Replica {
     ///
     /// Errors: `Memory` where there was none. Nothing is changed then.
     fn add_change(&mut self, alloc: Global, change: &Change, number: u64) -> Result<Id, Memory>
-        requires shaped { is_shaped change.now ≡ true }
+        requires shaped { is_change change.now ≡ true }
         requires number { number ≡ 1 + greatest_number self.old.agent (log_of self.old) }
         ensures ok { IfOk result (λ id. id ≡ agent_name self.old.agent number) }
-        ensures added { OnOk result (self.new ≡ with_unsent self.old (next_in self.old.agent (log_of self.old) (frontier (log_of self.old)) change.now ∷ [])) }
+        ensures added { OnOk result (self.new ≡ with_unsent self.old (next_in self.old.agent (log_of self.old)
+            (frontier (log_of self.old)) change.now ∷ [])) }
         ensures err { OnErr result (self.new ≡ self.old) }
     {
         // It gives the proof what every replica keeps.

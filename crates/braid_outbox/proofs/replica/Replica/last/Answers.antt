@@ -8,5 +8,7 @@ pub returns-in-Some : goal.returns-in-Some
 returns-in-Some c = record { last = ap Some c.id.ensures.value ∙ sym (last_entry c.args.self.now c.unsent-unsent.result (c.confirmed.result + c.unsent-unsent.result - 1) c.in-Some.last.now c.unsent-unsent.ensures.count c.if-unsent-eq0.false (omega (arith, c.confirmed.ensures.count)) c.in-Some.ensures.value) }
 
 pub returns-in-None : goal.returns-in-None
-returns-in-None c = record { last = absurd (no_gap (all_of c.args.self.now) (c.confirmed.result + c.unsent-unsent.result - 1)
-    (omega (arith, c.confirmed.ensures.count, c.unsent-unsent.ensures.count, c.if-unsent-eq0.false, length-append c.args.self.now.confirmed c.args.self.now.unsent)) (sym c.in-None.ensures.value)) }
+returns-in-None c = record {
+  last = absurd (no_gap (all_of c.args.self.now) (c.confirmed.result + c.unsent-unsent.result - 1)
+      (omega (arith, c.confirmed.ensures.count, c.unsent-unsent.ensures.count, c.if-unsent-eq0.false, length-append c.args.self.now.confirmed c.args.self.now.unsent)) (sym c.in-None.ensures.value));
+}
