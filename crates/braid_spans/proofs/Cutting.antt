@@ -1,15 +1,14 @@
 -- A cut of one run changes no element, and neither do two.
-use Rattle.std.proofs.Common.{◌≡◌, ℕ, suc, ◌+◌, ◌-◌, ◌<◌, ◌≤◌, ◌^◌, List, [], ◌∷◌, ◌++◌, Option, Some, None, All, length, take, drop, slice_get, get_or, refl, sym, ap, subst, ◌∙◌, arith, append_assoc}
+use Rattle.std.proofs.Common.{◌≡◌, ℕ, suc, ◌+◌, ◌<◌, List, ◌∷◌, ◌++◌, Some, length, take, drop, slice_get, get_or, refl, sym, ap, subst, ◌∙◌, arith, append_assoc}
 use Rattle.std.proofs.Math.ListN.{set}
 use Rattle.std.specs.List.{insert, remove}
-use Rattle.std.proofs.lemmas.List.{map-append}
 use Rattle.std.proofs.lemmas.List.Sums.{sum_by-set, sum_by-remove}
-use Rattle.std.proofs.lemmas.List.Elements.{All-set, All-same}
+use Rattle.std.proofs.lemmas.List.Elements.{All-set}
 use Rattle.std.proofs.lemmas.Option.{slice_get_within, slice_get-get_or}
 use Rattle.braid_spans.specs.declared.run.Run.{Run}
-use Rattle.braid_spans.specs.Spans.{Span, Spelled, spelled_span, spelled}
-use Rattle.braid_spans.specs.Kept.{span_of, spans_of, IsFitting, AreFitting, IsSmall, SpellsAlike, front_of, rest_of, size_in}
-use Rattle.braid_spans.proofs.Lists.{all_got, one_item, parts, set_parts, two_for_one, all_insert}
+use Rattle.braid_spans.specs.Spans.{spelled_span, spelled}
+use Rattle.braid_spans.specs.Kept.{span_of, spans_of, IsFitting, AreFitting, SpellsAlike, front_of, rest_of, size_in}
+use Rattle.braid_spans.proofs.Lists.{all_got, one_item, parts, two_for_one, all_insert}
 use Rattle.braid_spans.proofs.Spelling.{spelled-append, spans_of-append, cut_spelled, text_length, fitting_front, fitting_rest}
 
 -- runs between others, spelled

@@ -9,4 +9,8 @@ pub mod Marking
 pub mod Putting
 pub mod Seeing
 pub mod FullMarks
+pub mod InBlocks
+pub mod KeptBlocks
+pub mod Finding
 pub mod Sound
+pub mod SeenBlocks

@@ -1,15 +1,15 @@
 -- What one more deletion of one element does to what contracts see.
-use Rattle.std.proofs.Common.{◌≡◌, ℕ, zero, suc, ◌+◌, ◌-◌, ◌<◌, ◌≤◌, List, [], ◌∷◌, ◌++◌, Option, Some, None, All, length, take, drop, map, slice_get, get_or, refl, sym, ap, subst, ◌∙◌, arith, append_assoc}
+use Rattle.std.proofs.Common.{◌≡◌, ℕ, suc, ◌+◌, List, [], ◌∷◌, ◌++◌, Some, length, take, drop, slice_get, get_or, refl, sym, ap, ◌∙◌, arith}
 use Rattle.std.proofs.Math.ListN.{set}
 use Rattle.std.proofs.lemmas.List.{length-append, length-drop, append-nil, drop-append-le, take-append-le, get_or_at}
-use Rattle.std.proofs.lemmas.List.Elements.{All-append, All-cons, All-take, All-drop, All-same, All-weaker, All-set, All-head, All-tail}
+use Rattle.std.proofs.lemmas.List.Elements.{All-take, All-drop, All-weaker, All-set, All-head, All-tail}
 use Rattle.braid_tree.specs.declared.at.At.{At}
-use Rattle.braid_tree.specs.Rows.{Row, RowDeletion, PutsOne}
+use Rattle.braid_tree.specs.Rows.{PutsOne}
 use Rattle.braid_spans.specs.declared.run.Run.{Run}
 use Rattle.braid_spans.specs.declared.link.Link.{Link}
-use Rattle.braid_spans.specs.Spans.{Span, Spelled, spell, spelled_span, spelled, rows_of, row_in, deletions_of, deletions_in, deletions_at}
-use Rattle.braid_spans.specs.Kept.{span_of, spans_of, chain_at, chains_of, reach, IsFitting, AreFitting, IsAloneAt, MarksOne, linked_to}
-use Rattle.braid_spans.proofs.Lists.{all_got, one_item, some_item, parts, set_parts}
+use Rattle.braid_spans.specs.Spans.{Spelled, spell, spelled_span, spelled, rows_of, deletions_of, deletions_in}
+use Rattle.braid_spans.specs.Kept.{span_of, spans_of, chain_at, chains_of, IsFitting, AreFitting, MarksOne, linked_to}
+use Rattle.braid_spans.proofs.Lists.{all_got, parts, set_parts}
 use Rattle.braid_spans.proofs.Chains.{chain_more, chains_count, chains_push}
 use Rattle.braid_spans.proofs.Spelling.{rows_of-append, deletions_of-append}
 use Rattle.braid_spans.proofs.Cutting.{spelled_parts}

@@ -1,14 +1,14 @@
 -- The first element of a run goes over to the end of the run before it.
-use Rattle.std.proofs.Common.{◌≡◌, ℕ, zero, suc, ◌+◌, ◌-◌, ◌<◌, ◌≤◌, ◌^◌, List, [], ◌∷◌, ◌++◌, Option, Some, None, All, length, take, drop, slice_get, get_or, refl, sym, ap, subst, ◌∙◌, arith, append_assoc, take-add}
+use Rattle.std.proofs.Common.{◌≡◌, ℕ, zero, suc, ◌+◌, ◌-◌, ◌<◌, List, [], ◌∷◌, ◌++◌, Option, Some, length, take, drop, slice_get, get_or, refl, sym, ap, subst, ◌∙◌, arith, append_assoc, take-add}
 use Rattle.std.proofs.Math.ListN.{set}
-use Rattle.std.specs.List.{insert, remove}
-use Rattle.std.proofs.lemmas.List.{length-append, length-take-le, length-drop, take_at, drop_at, set_at, drop-drop, drop_more}
+use Rattle.std.specs.List.{remove}
+use Rattle.std.proofs.lemmas.List.{length-append, take_at, drop_at, set_at, drop-drop, drop_more}
 use Rattle.std.proofs.lemmas.List.Elements.{All-append, All-cons, All-take, All-drop, All-same}
 use Rattle.std.proofs.lemmas.List.Edits.{remove-append_right}
 use Rattle.braid_tree.specs.declared.at.At.{At}
-use Rattle.braid_tree.specs.Rows.{Row, place}
+use Rattle.braid_tree.specs.Rows.{place}
 use Rattle.braid_spans.specs.declared.run.Run.{Run}
-use Rattle.braid_spans.specs.Spans.{Span, Spelled, spell, spelled_span, spelled}
+use Rattle.braid_spans.specs.Spans.{Spelled, spell, spelled_span, spelled}
 use Rattle.braid_spans.specs.Kept.{PassesFirst, span_of, spans_of, chain_at, IsFitting, AreFitting, IsNext, MarksOne, front_of, rest_of}
 use Rattle.braid_spans.proofs.Lists.{all_got, one_item}
 use Rattle.braid_spans.proofs.Spelling.{spell_at, cut_spelled, text_length, fitting_rest}

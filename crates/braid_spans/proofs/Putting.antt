@@ -1,19 +1,19 @@
 -- A run that is put between others: where it stands among the rows, and what stays.
-use Rattle.std.proofs.Common.{◌≡◌, ℕ, zero, suc, ◌+◌, ◌-◌, ◌<◌, ◌≤◌, ◌^◌, List, [], ◌∷◌, ◌++◌, Option, Some, None, IsSomeAnd, IfSome, MatchOption, All, length, take, drop, map, slice_get, get_or, refl, sym, ap, subst, ◌∙◌, arith, append_assoc, Less, inl, inr, ◌⊎◌, take-add}
+use Rattle.std.proofs.Common.{◌≡◌, ℕ, zero, suc, ◌+◌, ◌-◌, ◌<◌, ◌≤◌, ◌^◌, List, [], ◌∷◌, ◌++◌, Option, Some, None, IsSomeAnd, IfSome, MatchOption, length, take, drop, slice_get, refl, sym, ap, subst, ◌∙◌, arith, append_assoc, Less, inl, inr, take-add}
 use Rattle.std.specs.List.{insert, AllByRecursion}
-use Rattle.std.proofs.lemmas.List.{length-append, length-map, length-drop, length-take-le, append-nil, take_at, drop_at, take_all, take-append-drop, drop-drop}
+use Rattle.std.proofs.lemmas.List.{length-append, length-map, append-nil, take_at, drop_at, take_all, take-append-drop}
 use Rattle.std.proofs.lemmas.List.Elements.{All-take, All-drop, All-weaker}
 use Rattle.std.proofs.lemmas.Bool.{cases_order}
 use Rattle.std.proofs.lemmas.Option.{slice_get_cases, slice_get_within}
 use Rattle.braid_tree.specs.declared.at.At.{At}
-use Rattle.braid_tree.specs.Keys.{Key, key_cmp}
-use Rattle.braid_tree.specs.Rows.{Row, Stamp, RowDeletion, PutsRun, HasPlace, key_at, key_by, place, run_rows}
+use Rattle.braid_tree.specs.Keys.{key_cmp}
+use Rattle.braid_tree.specs.Rows.{Row, Stamp, PutsRun, key_at, key_by, place, run_rows}
 use Rattle.braid_tree.specs.Inside.{IsPlaceOf, IsPassed, IsNotPassed}
 use Rattle.braid_tree.proofs.Order.{below_trans}
 use Rattle.braid_tree.proofs.Keys.{keys_strict, lower_ordinal}
 use Rattle.braid_tree.proofs.Bridge.{StartsBehindRow, run_put_at}
 use Rattle.braid_spans.specs.declared.run.Run.{Run}
-use Rattle.braid_spans.specs.Spans.{Span, Spelled, spell, spelled_span, spelled, rows_of, deletions_of}
+use Rattle.braid_spans.specs.Spans.{Spelled, spell, spelled_span, spelled, rows_of, deletions_of}
 use Rattle.braid_spans.specs.Kept.{span_of, spans_of, IsFitting, AreFitting, IsPut, IsEndAt, IsRunPassed, IsRunNotPassed}
 use Rattle.braid_spans.proofs.Lists.{parts, take_item, drop_at_item, some_item, all_got, all_insert}
 use Rattle.braid_spans.proofs.SeenSteps.{get_left, get_right}

@@ -1,19 +1,18 @@
 -- What marked versions see of elements is what they see of runs.
-use Rattle.std.proofs.Common.{◌≡◌, ℕ, zero, suc, ◌+◌, ◌-◌, ◌<◌, ◌≤◌, List, [], ◌∷◌, ◌++◌, Option, Some, None, Bool, true, false, not, cond, ◌&&◌, ◌||◌, All, length, take, drop, map, filter, refl, sym, ap, subst, ◌∙◌, arith, append_assoc, inl, inr}
+use Rattle.std.proofs.Common.{◌≡◌, ℕ, ◌+◌, List, [], ◌∷◌, ◌++◌, Option, Some, Bool, true, false, not, cond, ◌&&◌, ◌||◌, length, map, filter, refl, sym, ap, subst, ◌∙◌, arith, append_assoc, inl, inr}
 use Rattle.std.specs.List.{list_any, flat_map}
 use Rattle.std.proofs.lemmas.List.{map-append, length-append, length-map}
 use Rattle.std.proofs.lemmas.List.Elements.{filter-append, All-filter, All-head, All-tail}
-use Rattle.std.proofs.lemmas.Bool.{cases_Bool}
 use Rattle.braid_ids.specs.MarkSets.{has_mark}
 use Rattle.braid_tree.specs.declared.at.At.{At}
 use Rattle.braid_tree.specs.Rows.{Row, RowDeletion, HasPlace, place}
 use Rattle.braid_tree.specs.Inside.{HaveOwnPlaces}
-use Rattle.braid_tree.specs.Seen.{is_same_place, is_marked_deletion, is_deleted_by, is_seen_by, seen_rows, place_in, char_in}
+use Rattle.braid_tree.specs.Seen.{is_marked_deletion, is_deleted_by, is_seen_by, seen_rows, place_in, char_in}
 use Rattle.braid_tree.proofs.Links.{same_place_itself, other_place_false}
 use Rattle.braid_spans.specs.declared.run.Run.{Run}
-use Rattle.braid_spans.specs.Spans.{Span, Spelled, spell, spelled_span, spelled, rows_of, row_in, deletions_of, deletions_in, deletions_at}
+use Rattle.braid_spans.specs.Spans.{Spelled, spell, spelled_span, spelled, rows_of, row_in, deletions_of, deletions_in, deletions_at}
 use Rattle.braid_spans.specs.Kept.{span_of, spans_of, chain_at, size_in, IsFitting, AreFitting}
-use Rattle.braid_spans.specs.SeenRuns.{is_seen, is_seen_element, is_seen_span, is_seen_run, seen_runs, places_from, places_in, seen_places, chars_in, seen_chars, seen_count}
+use Rattle.braid_spans.specs.SeenRuns.{is_seen, is_seen_element, is_seen_run, seen_runs, places_from, places_in, seen_places, chars_in, seen_chars, seen_count}
 use Rattle.braid_spans.proofs.Lists.{sum_by-cons}
 use Rattle.braid_spans.proofs.Spelling.{text_length, length-spell}
 

@@ -1,13 +1,13 @@
 -- What runs that fit tell of each of them, and what a sound document tells of its answers.
-use Rattle.std.proofs.Common.{◌≡◌, ℕ, zero, suc, ◌+◌, ◌-◌, ◌<◌, ◌≤◌, ◌^◌, List, [], ◌∷◌, ◌++◌, Option, Some, None, MatchOption, All, length, take, drop, map, slice_get, get_or, refl, sym, ap, subst, ◌∙◌, arith, inl, inr, ◌⊎◌, Bool, Result, Ok, Err, IfOk, IfErr, false, ◌==◌}
+use Rattle.std.proofs.Common.{◌≡◌, ℕ, zero, suc, ◌+◌, ◌<◌, ◌≤◌, ◌^◌, List, [], ◌∷◌, ◌++◌, Option, Some, None, MatchOption, All, length, take, drop, map, slice_get, refl, sym, ap, subst, ◌∙◌, arith, inl, inr, Bool, Result, Ok, Err, IfOk, IfErr, false, ◌==◌}
 use Rattle.std.specs.Result.{result_ok}
 use Rattle.std.specs.List.{flat_map}
 use Rattle.std.specs.Option.{option_map}
 use Rattle.std.proofs.lemmas.List.{length-append, length-map, length-take-le, length-drop}
 use Rattle.std.proofs.lemmas.List.Elements.{All-weaker, All-head, All-tail}
-use Rattle.std.proofs.lemmas.Option.{slice_get_within, slice_get-get_or, slice_get-map}
+use Rattle.std.proofs.lemmas.Option.{slice_get-map}
 use Rattle.braid_tree.specs.declared.at.At.{At}
-use Rattle.braid_tree.specs.Rows.{Row, Stamp, HasPlace, AreNewOrdinals, AreKnown, PutsRun, PutsOne, run_rows, place}
+use Rattle.braid_tree.specs.Rows.{Row, HasPlace, AreNewOrdinals, AreKnown, PutsRun, run_rows, place}
 use Rattle.braid_tree.specs.Inside.{HaveOwnPlaces}
 use Rattle.braid_tree.specs.Seen.{seen_rows, place_in, char_in}
 use Rattle.braid_tree.proofs.Places.{place_cases, place_of_run, known_put, own_put}
@@ -16,7 +16,7 @@ use Rattle.braid_tree.proofs.Deletions.{puts_length}
 use Rattle.braid_spans.specs.declared.run.Run.{Run}
 use Rattle.braid_spans.specs.declared.link.Link.{Link}
 use Rattle.braid_spans.specs.declared.version.Version.{Version}
-use Rattle.braid_spans.specs.Spans.{Span, Spelled, spell, spelled_span, spelled, rows_of, deletions_of}
+use Rattle.braid_spans.specs.Spans.{spelled_span, spelled, rows_of, deletions_of}
 use Rattle.braid_spans.specs.Kept.{span_of, spans_of, stamps_in, stamp_of, chains_of, reach, size_in, undeleted_in, IsFitting, AreFitting, IsSmall, IsHeld, IsHeldAt, IsSound, IsPut, MarksOne, SpellsAlike, AreLinked}
 use Rattle.braid_spans.specs.SeenRuns.{places_in, seen_runs, seen_count, seen_places, seen_chars}
 use Rattle.braid_spans.proofs.Lists.{sum_by-cons}
@@ -159,7 +159,7 @@ past_end (x ∷ xs) zero l = absurd (omega (arith, l))
 past_end (x ∷ xs) (suc n) l = past_end xs n (omega (arith, l))
 
 -- the places are as many as what is seen
-places_count : (xs : List Run) → length (flat_map places_in xs) ≡ size_in xs
+pub places_count : (xs : List Run) → length (flat_map places_in xs) ≡ size_in xs
 places_count [] = refl
 places_count (r ∷ xs) =
     let a = length-append (places_in r) (flat_map places_in xs) in

@@ -167,9 +167,10 @@ pub record AreCounted (rs : List Run) (n : ℕ) : Type 0 where
   pub size : size_in rs < 2 ^ 32
   pub undeleted : n ≡ undeleted_in rs
 
--- what contracts see of kept runs: the list of them, and for how many more there is room
+-- what contracts see of kept runs: the list of them, the blocks that they stand in, and for how many more there is room
 pub record RunsView : Type 0 where
   pub list : List Run
+  pub blocks : List (List Run)
   pub room : ℕ
 
 -- versions, characters, links and runs that fit together, with this many deletions

@@ -1,5 +1,5 @@
 -- What marked versions see of runs.
-use Rattle.std.specs.Prelude.{ℕ, zero, suc, ◌+◌, List, [], ◌∷◌, Bool, not, ◌&&◌, filter, take, drop, sum_by, if◌then◌else◌}
+use Rattle.std.specs.Prelude.{ℕ, zero, suc, ◌+◌, List, [], ◌∷◌, Bool, not, ◌&&◌, filter, take, drop, sum_by}
 use Rattle.std.specs.List.{list_any, flat_map}
 use Rattle.braid_ids.specs.MarkSets.{has_mark}
 use Rattle.braid_tree.specs.Rows.{place}

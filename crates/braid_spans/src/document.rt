@@ -7,8 +7,9 @@ use crate::inserting::put_run;
 use crate::left::Left;
 use crate::link::Link;
 use crate::runs::Runs;
+use crate::skipping::pass_blocks;
 use crate::version::Version;
-use crate::visible::{Piece, count_visible, nth_visible, push_text, push_visible};
+use crate::whole::{count_all, nth_of_all, push_chars, push_places};
 use braid_ids::{Id, Marks, Memory};
 use braid_tree::{At, Document};
 use std::alloc::Global;
@@ -18,11 +19,14 @@ use std::marker::Model;
 ///
 /// A run takes 36 bytes, a character 4, a deletion that is not joined to a neighbour's 12, and a version its identifier
 /// and 32 more; each up to twice that while room for more is kept, and two runs for each element and deletion that room
-/// is kept for.
+/// is kept for. A block of runs that was cut is half empty, so runs take up to twice their bytes.
 ///
-/// A run or a deletion looks its element up from both ends of the runs, and moves the runs behind it once. A version that
-/// deletes neighbours one after the other leaves one run more of them, or two. Where the marks hold every version `len`
-/// takes constant time; else it is one pass over the runs, as `visible_at`, `visible_between` and `text` are.
+/// The runs stand in blocks of at most 256, each with its number of runs and of elements that nothing deletes. A run or
+/// a deletion looks its element up from the block of the last change on, passes over the blocks' numbers, and changes one
+/// block; where that is full it is cut in two. A version that deletes neighbours one after the other leaves one run more of
+/// them, or two. Where the marks hold every version `len` takes constant time, and `visible_at` and `visible_between` pass
+/// over the blocks' counts and then look into the blocks that they reach; else they are one pass over the runs, as `text`
+/// is.
 #[derive(Drop)]
 pub struct SpanDocument {
     versions: Vec<Version>,
@@ -165,11 +169,13 @@ impl Document for SpanDocument {
         if marks.is_full() && marks.size() as usize >= self.versions.len() {
             return self.runs.undeleted();
         }
-        count_visible(marks, &self.links, self.runs.all())
+        count_all(marks, &self.links, self.runs.blocks())
     }
 
     fn visible_at(&self, marks: &Marks, n: u32) -> Option<At> {
-        nth_visible(marks, &self.links, self.runs.all(), n).ok()
+        let passed = pass_blocks(self.versions.len(), marks, &self.links, self.runs.sums(), n);
+        let blocks = &self.runs.blocks()[passed.blocks..];
+        nth_of_all(marks, &self.links, blocks, passed.left)
     }
 
     fn visible_between(
@@ -179,18 +185,29 @@ impl Document for SpanDocument {
         from: u32,
         to: u32,
     ) -> Result<Vec<At>, Memory> {
+        let passed = pass_blocks(
+            self.versions.len(),
+            marks,
+            &self.links,
+            self.runs.sums(),
+            from,
+        );
+        let blocks = &self.runs.blocks()[passed.blocks..];
         let mut places = Vec::new(alloc);
-        let mut piece = Piece {
-            skip: from,
-            take: to.saturating_sub(from),
-        };
-        push_visible(&mut places, marks, &self.links, self.runs.all(), &mut piece)?;
+        let count = to.saturating_sub(from);
+        push_places(&mut places, marks, &self.links, blocks, passed.left, count)?;
         Ok(places)
     }
 
     fn text(&self, alloc: Global, marks: &Marks) -> Result<Vec<char>, Memory> {
         let mut text = Vec::new(alloc);
-        push_text(&mut text, marks, &self.links, &self.chars, self.runs.all())?;
+        push_chars(
+            &mut text,
+            marks,
+            &self.links,
+            &self.chars,
+            self.runs.blocks(),
+        )?;
         Ok(text)
     }
 

@@ -87,3 +87,20 @@ impl Run {
         }
     }
 }
+
+impl Default for Run {
+    /// What is kept where no run is.
+    fn default() -> Run {
+        let nowhere = At {
+            version: 0,
+            ordinal: 0,
+        };
+        Run {
+            first: nowhere,
+            start: 0,
+            len: 0,
+            origin: None,
+            newest: None,
+        }
+    }
+}

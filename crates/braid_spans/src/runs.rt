@@ -1,29 +1,43 @@
-ghost use Rattle.std.specs.Prelude.{◌≡◌, ℕ, ◌+◌, ◌<◌, ◌≤◌, ◌^◌, [], Some, OnOk, length, slice_get, slice_set};
+ghost use Rattle.std.specs.Prelude.{◌≡◌, ℕ, ◌+◌, ◌<◌, ◌≤◌, ◌^◌, [], List, Some, IfSome, IfNone, OnOk, length, map, slice_get, slice_set};
 ghost use Rattle.std.specs.List.{insert, remove};
 ghost use Rattle.braid_spans.specs.Kept.{IsHeldAt, size_in, undeleted_in};
+ghost use Rattle.braid_spans.specs.Blocks.{flat, sum_of};
 
+use crate::block::Block;
+use crate::blocks::{begin_blocks, insert_at, make_room, remove_at, reserve_blocks, set_at};
 use crate::run::Run;
+use crate::sum::{Sum, count_runs, gap_of, spot_of};
 use braid_ids::Memory;
 use braid_tree::At;
 use std::alloc::Global;
 use std::marker::Model;
 
-/// The runs of a document in reading order.
+/// The runs of a document in reading order, in blocks of at most 256.
+///
+/// A full block is cut in two. `sums` has of each block how many runs it holds and how many of their elements nothing
+/// deletes, so a run is found by its number by a pass over them. `last` is the block of the last change: a look-up begins
+/// there, and nothing rests on it.
 #[derive(Drop)]
 pub struct Runs {
-    runs: Vec<Run>,
+    blocks: Vec<Block>,
+    sums: Vec<Sum>,
+    count: usize,
     undeleted: u32,
+    room: usize,
+    last: usize,
 }
 
 impl Model for Runs {
-    ghost use Rattle.std.specs.Prelude.{◌-◌, vec_len, vec_capacity};
-    ghost use Rattle.braid_spans.specs.Kept.{RunsView, AreCounted};
+    ghost use Rattle.std.specs.Prelude.{vec_capacity};
+    ghost use Rattle.braid_spans.specs.Kept.{RunsView};
+    ghost use Rattle.braid_spans.specs.Blocks.{flat, AreBlocks};
 
     ghost Value = { RunsView };
 
-    ghost view = { λ r. record { list = r.runs.items; room = vec_capacity r.runs - vec_len r.runs } };
+    ghost view = { λ r. record { list = flat r.blocks.items; blocks = r.blocks.items; room = r.room } };
 
-    ghost invariant = { λ r. AreCounted r.runs.items r.undeleted };
+    ghost invariant = { λ r. AreBlocks r.blocks.items r.sums.items r.count r.undeleted r.room
+        (vec_capacity r.blocks) (vec_capacity r.sums) };
 }
 
 impl Runs {
@@ -33,8 +47,12 @@ impl Runs {
         ensures room { result.room ≡ 0 }
     {
         Runs {
-            runs: Vec::new(alloc),
+            blocks: Vec::new(alloc),
+            sums: Vec::new(alloc),
+            count: 0,
             undeleted: 0,
+            room: 0,
+            last: 0,
         }
     }
 
@@ -42,11 +60,18 @@ impl Runs {
     ///
     /// Errors: `Memory` where there was none; the runs are as before, and the room is at least what it was.
     pub fn reserve(&mut self, more: usize) -> Result<(), Memory>
+        requires few { more < 2 ^ 40 }
         ensures ok { OnOk result (more ≤ self.new.room) }
         ensures room { self.old.room ≤ self.new.room }
         ensures list { self.new.list ≡ self.old.list }
     {
-        self.runs.reserve(more)?;
+        if more <= self.room {
+            return Ok(());
+        }
+        let spare = self.blocks.len() + more / 128 + 2;
+        reserve_blocks(&mut self.blocks, &mut self.sums, spare)?;
+        begin_blocks(&mut self.blocks, &mut self.sums);
+        self.room = more;
         Ok(())
     }
 
@@ -55,7 +80,7 @@ impl Runs {
         ensures count { result ≡ length self.now.list }
         ensures few { length self.now.list < 2 ^ 32 }
     {
-        self.runs.len()
+        self.count
     }
 
     /// Run number `i`.
@@ -65,7 +90,8 @@ impl Runs {
         ensures size { size_in self.now.list < 2 ^ 32 }
         ensures few { length self.now.list < 2 ^ 32 }
     {
-        self.runs[i]
+        let spot = spot_of(&self.sums, i);
+        self.blocks[spot.block].get(spot.index)
     }
 
     /// How many elements nothing deletes.
@@ -83,9 +109,12 @@ impl Runs {
         ensures list { self.new.list ≡ slice_set self.old.list i run }
         ensures room { self.old.room ≤ self.new.room }
     {
-        let old = self.runs[i].undeleted();
-        self.undeleted = self.undeleted - old + run.undeleted();
-        self.runs[i] = run;
+        let spot = spot_of(&self.sums, i);
+        let old = set_at(&mut self.blocks, &mut self.sums, spot, run);
+        let out = old.undeleted();
+        let added = run.undeleted();
+        self.undeleted = self.undeleted - out + added;
+        self.last = spot.block;
     }
 
     /// Puts a run before number `i`, or at the end.
@@ -97,8 +126,14 @@ impl Runs {
         ensures list { self.new.list ≡ insert self.old.list i run }
         ensures room { self.old.room ≤ self.new.room + 1 }
     {
-        self.undeleted += run.undeleted();
-        let _ = self.runs.insert(i, run);
+        let gap = gap_of(&self.sums, i);
+        let spot = make_room(&mut self.blocks, &mut self.sums, gap);
+        insert_at(&mut self.blocks, &mut self.sums, spot, run);
+        let added = run.undeleted();
+        self.count += 1;
+        self.undeleted += added;
+        self.room -= 1;
+        self.last = spot.block;
     }
 
     /// Takes run number `i` out.
@@ -107,31 +142,72 @@ impl Runs {
         ensures list { self.new.list ≡ remove self.old.list i }
         ensures room { self.old.room ≤ self.new.room }
     {
-        let run = self.runs.remove(i);
-        self.undeleted -= run.undeleted();
+        let spot = spot_of(&self.sums, i);
+        let old = remove_at(&mut self.blocks, &mut self.sums, spot);
+        let out = old.undeleted();
+        self.count -= 1;
+        self.undeleted -= out;
+        self.last = spot.block;
     }
 
-    /// The number of the run that holds the element at a place. It looks from both ends, where most edits are.
+    /// The number of the run that holds the element at a place. It looks from the block of the last change on to the
+    /// end, then before it.
     pub fn find(&self, at: At) -> usize
         requires there { (i : ℕ) × IsHeldAt self.now.list at i }
         ensures found { IsHeldAt self.now.list at result }
     {
-        for i in 0..self.runs.len() {
-            let back = self.runs.len() - 1 - i;
-            if self.runs[back].holds(at) {
-                return back;
-            }
-            if self.runs[i].holds(at) {
-                return i;
-            }
+        let last = self.last.min(self.blocks.len());
+        if let Some(index) = find_in(&self.blocks[last..], at) {
+            return count_runs(&self.sums[..last]) + index;
         }
-        unreachable!()
+        match find_in(&self.blocks[..last], at) {
+            Some(index) => index,
+            None => unreachable!(),
+        }
     }
 
-    /// All runs.
-    pub fn all(&self) -> &[Run]
-        ensures value { result.now ≡ self.now.list }
+    /// The blocks that the runs stand in.
+    pub fn blocks(&self) -> &[Block]
+        ensures value { result.now ≡ self.now.blocks }
+        ensures list { self.now.list ≡ flat self.now.blocks }
     {
-        &self.runs
+        &self.blocks
     }
+
+    /// What is kept of each block.
+    pub fn sums(&self) -> &[Sum]
+        ensures value { result.now ≡ map sum_of self.now.blocks }
+    {
+        &self.sums
+    }
+}
+
+/// The number of the run of these blocks that holds the element at a place, if one does.
+fn find_in(blocks: &[Block], at: At) -> Option<usize>
+    requires few { length (flat blocks.now) < 2 ^ 32 }
+    ensures found { IfSome result (IsHeldAt (flat blocks.now) at) }
+    ensures none { IfNone result ((i : ℕ) → ¬ (IsHeldAt (flat blocks.now) at i)) }
+{
+    let mut before = 0;
+    for block in blocks {
+        let runs = block.runs();
+        match index_in(runs, at) {
+            Some(index) => return Some(before + index),
+            None => before += runs.len(),
+        }
+    }
+    None
+}
+
+/// The number of the run that holds the element at a place, if one does.
+fn index_in(runs: &[Run], at: At) -> Option<usize>
+    ensures found { IfSome result (IsHeldAt runs.now at) }
+    ensures none { IfNone result ((i : ℕ) → ¬ (IsHeldAt runs.now at i)) }
+{
+    for (i, run) in runs.iter().enumerate() {
+        if run.holds(at) {
+            return Some(i);
+        }
+    }
+    None
 }

@@ -1,4 +1,4 @@
-use Rattle.std.proofs.Common.{◌≡◌, ◌<◌, arith, Some}
+use Rattle.std.proofs.Common.{◌<◌, arith, Some}
 use Rattle.braid_spans.specs.declared.run.Run.{Run}
 use Rattle.braid_spans.proofs.Lists.{from_some_and}
 use Rattle.braid_spans.proofs.Cutting.{size_set}

@@ -1,4 +1,4 @@
-use Rattle.std.proofs.Common.{◌≡◌, ◌∷◌, ℕ, Option, None, Some, ◌∙◌, sym, ap, arith, List, length, ◌<◌, get_or}
+use Rattle.std.proofs.Common.{◌≡◌, ◌∷◌, ℕ, Option, None, ◌∙◌, sym, ap, List, length, get_or}
 use Rattle.std.proofs.lemmas.Option.{slice_get-get_or}
 use Rattle.braid_spans.specs.declared.link.Link.{Link}
 use Rattle.braid_spans.specs.Kept.{chain_at, chains_of}

@@ -1,4 +1,4 @@
-use Rattle.std.proofs.Common.{◌≡◌, ◌+◌, ◌-◌, ◌<◌, ◌≤◌, ◌∙◌, ℕ, List, length, slice_get, Some, sym, ap, subst, arith, length-set}
+use Rattle.std.proofs.Common.{◌≡◌, ◌+◌, ◌-◌, ◌<◌, ◌∙◌, length, slice_get, Some, sym, ap, subst, arith, length-set}
 use Rattle.std.proofs.Math.ListN.{set}
 use Rattle.std.specs.List.{insert}
 use Rattle.std.proofs.lemmas.Option.{slice_get_within}

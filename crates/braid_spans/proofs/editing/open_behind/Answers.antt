@@ -1,4 +1,4 @@
-use Rattle.std.proofs.Common.{◌≡◌, ◌<◌, arith, subst, sym}
+use Rattle.std.proofs.Common.{arith, subst, sym}
 use Rattle.std.proofs.lemmas.Option.{slice_get_within}
 use Rattle.braid_spans.specs.Kept.{RunsView, SpellsAlike}
 use Rattle.braid_spans.proofs.Cutting.{alike_same}

@@ -1,9 +1,9 @@
-use Rattle.std.proofs.Common.{◌≡◌, ◌+◌, ◌-◌, ◌<◌, ◌≤◌, ◌^◌, ◌∙◌, ℕ, List, length, slice_get, Some, sym, ap, subst, arith, length-set, IsSomeAnd}
+use Rattle.std.proofs.Common.{◌≡◌, ◌+◌, ◌-◌, ◌∙◌, ℕ, List, slice_get, Some, sym, ap, subst, arith, IsSomeAnd}
 use Rattle.std.proofs.Math.ListN.{set}
 use Rattle.std.specs.List.{remove}
 use Rattle.std.proofs.lemmas.Option.{slice_get_within}
 use Rattle.braid_spans.specs.declared.run.Run.{Run}
-use Rattle.braid_spans.specs.Kept.{RunsView, IsSmall, IsNext, PassesFirst, front_of, rest_of, size_in}
+use Rattle.braid_spans.specs.Kept.{RunsView, IsSmall, IsNext, PassesFirst, rest_of, size_in}
 use Rattle.braid_spans.proofs.Lists.{from_some_and, all_got}
 use Rattle.braid_spans.proofs.Cutting.{size_set, size_remove}
 use Rattle.braid_spans.proofs.Passing.{passes_one, passes_last, kept_by_remove, kept_by_set}

@@ -1,4 +1,4 @@
-use Rattle.std.proofs.Common.{◌≡◌, ℕ, ◌≤◌, ◌<◌, arith, below_more, Less}
+use Rattle.std.proofs.Common.{◌≡◌, ℕ, ◌≤◌, arith, below_more, Less}
 use Rattle.braid_tree.specs.Keys.{key_cmp}
 use Rattle.braid_tree.specs.Rows.{key_at}
 use Rattle.braid_spans.specs.declared.run.Run.{Run}

@@ -1,8 +1,7 @@
-use Rattle.std.proofs.Common.{◌≡◌, ◌+◌, ◌-◌, ◌<◌, ◌≤◌, ◌++◌, ◌∙◌, List, ℕ, length, sym, ap, subst, arith, vec_len, Some, None, Bool, true, if◌then◌else◌}
+use Rattle.std.proofs.Common.{◌≡◌, ◌++◌, ◌∙◌, List, ℕ, length, sym, ap, subst, arith, None, Bool, true, if◌then◌else◌}
 use Rattle.std.specs.Result.{is_ok}
 use Rattle.std.specs.List.{insert}
 use Rattle.std.proofs.lemmas.List.{length-map}
-use Rattle.braid_tree.specs.declared.at.At.{At}
 use Rattle.braid_spans.specs.declared.run.Run.{Run}
 use Rattle.braid_spans.specs.Spans.{spelled}
 use Rattle.braid_spans.specs.Kept.{stamps_in, stamp_of, spans_of, AreFitting, IsPut}

@@ -1,8 +1,5 @@
-use Rattle.std.proofs.Common.{None, ◌∙◌, sym, ap, arith, subst, ◌≤◌, length}
-use Rattle.std.specs.List.{list_any}
+use Rattle.std.proofs.Common.{None, ◌∙◌, sym, arith}
 use Rattle.braid_spans.specs.declared.link.Link.{Link}
-use Rattle.braid_ids.specs.MarkSets.{has_mark}
-use Rattle.braid_spans.specs.Kept.{chain_at, chains_of, reach}
 use Rattle.braid_tree.proofs.Links.{mark_is}
 use Rattle.braid_spans.proofs.Chains.{chain_steps, link_there, any_first, any_rest}
 use Rattle.braid_spans.proofs.link.is_deleted.Goals as goal

@@ -1,4 +1,4 @@
-use Rattle.std.proofs.Common.{◌≡◌, ◌≤◌, ◌+◌, ◌-◌, ◌++◌}
+use Rattle.std.proofs.Common.{◌≡◌, ◌+◌, ◌-◌, ◌++◌}
 use Rattle.braid_spans.specs.SeenRuns.{places_from}
 use Rattle.braid_spans.proofs.visible.push_piece.Given as goal
 

@@ -1,4 +1,4 @@
-use Rattle.std.proofs.Common.{◌≡◌, ◌+◌, ◌-◌, ◌++◌, None, ◌∙◌, sym, ap, arith, append_assoc, take, drop, get_or}
+use Rattle.std.proofs.Common.{◌+◌, ◌-◌, ◌++◌, None, ◌∙◌, sym, ap, arith, append_assoc, take, drop, get_or}
 use Rattle.braid_spans.specs.declared.run.Run.{Run}
 use Rattle.braid_spans.specs.Kept.{chains_of}
 use Rattle.braid_spans.specs.SeenRuns.{seen_places, places_from}

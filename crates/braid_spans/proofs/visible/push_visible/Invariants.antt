@@ -1,4 +1,4 @@
-use Rattle.std.proofs.Common.{◌≡◌, ◌≤◌, ◌+◌, ◌-◌, ◌++◌, take, drop}
+use Rattle.std.proofs.Common.{◌≡◌, ◌≤◌, ◌-◌, ◌++◌, take, drop}
 use Rattle.braid_spans.specs.Kept.{chains_of}
 use Rattle.braid_spans.specs.SeenRuns.{seen_count, seen_places}
 use Rattle.braid_spans.proofs.visible.push_visible.Given as goal

@@ -1,9 +1,9 @@
-use Rattle.std.proofs.Common.{◌≡◌, ℕ, ◌+◌, ◌-◌, ◌<◌, ◌≤◌, ◌∙◌, length, sym, ap, subst, arith}
+use Rattle.std.proofs.Common.{◌≡◌, ℕ, ◌+◌, ◌-◌, ◌<◌, ◌≤◌, length, sym, subst, arith}
 use Rattle.std.proofs.lemmas.List.{length-map}
 use Rattle.braid_tree.specs.Rows.{HasPlace, PutsOne}
 use Rattle.braid_spans.specs.Spans.{SpanView, spelled, rows_of, deletions_of}
 use Rattle.braid_spans.specs.Kept.{stamp_of, stamps_in, spans_of, chains_of}
-use Rattle.braid_spans.proofs.Marking.{marked_rows, marked_deletions}
+use Rattle.braid_spans.proofs.Marking.{marked_deletions}
 use Rattle.braid_spans.proofs.Sound.{held_from_place, sound_marked}
 use Rattle.braid_spans.proofs.document.SpanDocumentDocument.delete.Goals as goal
 

@@ -1,9 +1,8 @@
-use Rattle.std.proofs.Common.{◌≡◌, ℕ, ◌+◌, ◌-◌, ◌<◌, ◌≤◌, ◌++◌, ◌∙◌, List, MatchOption, length, sym, ap, subst, arith, vec_len}
+use Rattle.std.proofs.Common.{◌≡◌, ℕ, ◌+◌, ◌-◌, ◌<◌, ◌≤◌, ◌∙◌, List, MatchOption, length, sym, ap, subst, arith, vec_len}
 use Rattle.std.proofs.lemmas.List.{length-map, length-append}
 use Rattle.braid_tree.specs.Rows.{HasPlace, AreNewOrdinals, AreKnown}
-use Rattle.braid_spans.specs.Spans.{SpanView, spelled, rows_of, deletions_of}
+use Rattle.braid_spans.specs.Spans.{SpanView, spelled, rows_of}
 use Rattle.braid_spans.specs.Kept.{stamp_of, stamps_in, spans_of, chains_of, IsSound, IsPut, AreFitting}
-use Rattle.braid_tree.specs.declared.at.At.{At}
 use Rattle.braid_spans.specs.declared.version.Version.{Version}
 use Rattle.braid_spans.proofs.Sound.{some_items, held_after, size_sound, sound_put}
 use Rattle.braid_spans.proofs.document.SpanDocumentDocument.insert_run.Goals as goal

@@ -1,30 +1,61 @@
-use Rattle.std.proofs.Common.{◌≡◌, ◌<◌, ◌≤◌, ◌^◌, ◌∙◌, List, All, length, sym, ap, subst, arith, slice_get}
+use Rattle.std.proofs.Common.{◌≡◌, ◌+◌, ◌-◌, ◌<◌, ◌≤◌, ◌^◌, ◌∙◌, ℕ, List, All, length, sym, ap, subst, arith, slice_get, take, drop}
 use Rattle.std.specs.Option.{option_map}
+use Rattle.std.proofs.lemmas.List.{take_rest}
 use Rattle.braid_tree.specs.Seen.{seen_rows, place_in}
+use Rattle.braid_spans.specs.SeenRuns.{seen_places, seen_count}
 use Rattle.braid_spans.specs.Spans.{SpanView, spelled, rows_of, deletions_of}
 use Rattle.braid_spans.specs.declared.run.Run.{Run}
 use Rattle.braid_spans.specs.declared.link.Link.{Link}
-use Rattle.braid_spans.specs.Kept.{reach, chains_of, spans_of}
-use Rattle.braid_spans.proofs.Sound.{all_reached, places_answer, nth_is, place_at}
+use Rattle.braid_spans.specs.Kept.{reach, chains_of, spans_of, AreFitting}
+use Rattle.braid_spans.specs.Blocks.{flat}
+use Rattle.braid_spans.proofs.InBlocks.{all_behind}
+use Rattle.braid_spans.proofs.SeenBlocks.{nth_behind}
+use Rattle.braid_spans.proofs.Sound.{all_reached, all_ordinals, places_answer, place_at}
 use Rattle.braid_spans.proofs.document.SpanDocumentDocument.visible_at.Goals as goal
 
-pub nth_visible-requires-clause-within : goal.nth_visible-requires-clause-within
-nth_visible-requires-clause-within c =
+pub nth_of_all-requires-clause-within : goal.nth_of_all-requires-clause-within
+nth_of_all-requires-clause-within c =
     let in' = c.self.inside in
-    subst (λ (t : List Link). All (λ (r : Run). reach r.newest ≤ length t) c.all.result.now) (sym c.deref.ensures.value)
-    (subst (All (λ (r : Run). reach r.newest ≤ length in'.links.items)) (sym c.all.ensures.value)
-    (all_reached (length in'.versions.items) in'.chars.items in'.links.items in'.runs.list c.self.invariant.0.fitting))
+    let bs = in'.runs.blocks in
+    let k = c.pass_blocks-passed.result.blocks in
+    let x = c.blocks-2.result.now in
+    let P = λ (r : Run). reach r.newest ≤ length in'.links.items in
+    let same : flat (take (length x - k) (drop k x)) ≡ flat (drop k bs) = ap flat (take_rest x k ∙ ap (drop k) c.blocks-2.ensures.value) in
+    subst (λ (t : List Link). All (λ (r : Run). reach r.newest ≤ length t) (flat (take (length x - k) (drop k x)))) (sym c.deref-2.ensures.value)
+    (subst (All P) (sym same) (all_behind P bs k (subst (All P) c.blocks-2.ensures.list (all_reached (length in'.versions.items) in'.chars.items in'.links.items in'.runs.list c.self.invariant.0.fitting))))
+
+pub nth_of_all-requires-clause-ordinals : goal.nth_of_all-requires-clause-ordinals
+nth_of_all-requires-clause-ordinals c =
+    let in' = c.self.inside in
+    let bs = in'.runs.blocks in
+    let k = c.pass_blocks-passed.result.blocks in
+    let x = c.blocks-2.result.now in
+    let P = λ (r : Run). r.first.ordinal + r.len < 2 ^ 32 in
+    let same : flat (take (length x - k) (drop k x)) ≡ flat (drop k bs) = ap flat (take_rest x k ∙ ap (drop k) c.blocks-2.ensures.value) in
+    subst (All P) (sym same) (all_behind P bs k (subst (All P) c.blocks-2.ensures.list (all_ordinals (length in'.versions.items) in'.chars.items (chains_of in'.links.items) in'.runs.list c.self.invariant.0.fitting)))
 
 pub returns : goal.returns
 returns c =
     let in' = c.self.inside in
+    let bs = in'.runs.blocks in
+    let k = c.pass_blocks-passed.result.blocks in
+    let left = c.pass_blocks-passed.result.left in
     let marks = c.args.marks.now in
-    let links = c.deref.result.now in
-    let rs = c.all.result.now in
+    let links = c.deref-2.result.now in
+    let x = c.blocks-2.result.now in
+    let list = c.blocks-2.ensures.list in
+    let same : flat (take (length x - k) (drop k x)) ≡ flat (drop k bs) = ap flat (take_rest x k ∙ ap (drop k) c.blocks-2.ensures.value) in
+    let n : c.len.result ≡ length in'.versions.items = omega (arith, c.len.ensures) in
+    let fit = subst (AreFitting c.len.result in'.chars.items (chains_of c.deref.result.now)) list
+    (subst (λ (t : List Link). AreFitting c.len.result in'.chars.items (chains_of t) in'.runs.list) (sym c.deref.ensures.value)
+    (subst (λ (m : ℕ). AreFitting m in'.chars.items (chains_of in'.links.items) in'.runs.list) (sym n) c.self.invariant.0.fitting)) in
+    let passed = subst (λ (t : List Link). seen_count marks (chains_of t) (flat (take k bs)) + left ≡ c.args.n) (c.deref.ensures.value ∙ sym c.deref-2.ensures.value)
+    (c.pass_blocks-passed.ensures.passed bs c.sums.ensures.value in'.chars.items fit) in
     record {
-      value = subst (λ (v : SpanView). c.ok.result ≡ option_map place_in (slice_get (seen_rows marks (deletions_of (spelled v.runs)) (rows_of (spelled v.runs))) c.args.n)) c.self.view_is
-          (c.ok.ensures.value
-          ∙ nth_is marks (chains_of links) rs c.args.n c.nth_visible.result c.nth_visible.ensures.ok c.nth_visible.ensures.err
-          ∙ ap (λ t. slice_get t c.args.n) (places_answer in'.versions.items in'.chars.items in'.links.items in'.runs.list in'.deletions c.self.invariant.0 marks links rs c.deref.ensures.value c.all.ensures.value)
+      value = subst (λ (v : SpanView). c.nth_of_all.result ≡ option_map place_in (slice_get (seen_rows marks (deletions_of (spelled v.runs)) (rows_of (spelled v.runs))) c.args.n)) c.self.view_is
+          (c.nth_of_all.ensures.value
+          ∙ ap (λ t. slice_get (seen_places marks (chains_of links) t) left) same
+          ∙ nth_behind marks (chains_of links) bs k c.args.n left passed
+          ∙ ap (λ t. slice_get t c.args.n) (places_answer in'.versions.items in'.chars.items in'.links.items in'.runs.list in'.deletions c.self.invariant.0 marks links (flat bs) c.deref-2.ensures.value (sym list))
           ∙ sym (place_at (seen_rows marks (deletions_of (spelled (spans_of in'.chars.items (chains_of in'.links.items) in'.runs.list))) (rows_of (spelled (spans_of in'.chars.items (chains_of in'.links.items) in'.runs.list)))) c.args.n));
     }
