@@ -1,6 +1,6 @@
 //! Texts that are typed into a document of runs, and into the plain one beside it.
 
-ghost use Rattle.std.specs.Prelude.{◌≡◌, ◌+◌, ◌<◌, length, OnOk, IsTrue};
+ghost use Rattle.std.specs.Prelude.{◌≡◌, ◌+◌, ◌<◌, length, IfOk, OnOk, IsTrue};
 
 use super::*;
 use braid_ids::{Id, Marks};
@@ -70,16 +70,31 @@ fn type_chars<D: Document>(
     requires few { length (D.stamps doc.old) < 1000 }
     ensures begun { OnOk result (length (D.stamps doc.new) ≡ length (D.stamps doc.old) + 1) }
 {
-    check(doc.elements() < 1_000_000 && text.len() < 1_000_000, "few")?;
-    check(doc.deletions() < 1_000_000, "few")?;
     let id = Id::read(alloc, author.name.as_bytes())?;
     let marks = marks_of(alloc, author.sees)?;
+    type_seen(doc, id, author.level, &marks, at, text)
+}
+
+/// Types characters as a version of its own: behind the first `at` elements that marked versions see.
+fn type_seen<D: Document>(
+    doc: &mut D,
+    id: Id,
+    level: u32,
+    marks: &Marks,
+    at: u32,
+    text: &[char],
+) -> Result<(), Fail>
+    requires few { length (D.stamps doc.old) < 1000 }
+    ensures begun { OnOk result (length (D.stamps doc.new) ≡ length (D.stamps doc.old) + 1) }
+{
+    check(doc.elements() < 1_000_000 && text.len() < 1_000_000, "few")?;
+    check(doc.deletions() < 1_000_000, "few")?;
     doc.reserve(1, text.len() as u32, 0)?;
     let after = match at {
         0 => None,
-        _ => doc.visible_at(&marks, at - 1),
+        _ => doc.visible_at(marks, at - 1),
     };
-    doc.begin(id, author.level);
+    doc.begin(id, level);
     doc.insert_run(after, text, 0);
     Ok(())
 }
@@ -115,15 +130,32 @@ fn delete_chars<D: Document>(
     requires next { number ≡ length (D.stamps doc.old) }
     ensures begun { OnOk result (length (D.stamps doc.new) ≡ number + 1) }
 {
-    check(doc.elements() < 1_000_000 && count < 1_000_000, "few")?;
-    check(doc.deletions() < 1_000_000, "few")?;
     let id = Id::read(alloc, author.name.as_bytes())?;
     let marks = marks_of(alloc, author.sees)?;
+    delete_seen(doc, number, id, author.level, &marks, from, count)
+}
+
+/// Deletes as version number `number`, which is marked, some elements that marked versions see from the one at `from` on.
+fn delete_seen<D: Document>(
+    doc: &mut D,
+    number: u32,
+    id: Id,
+    level: u32,
+    marks: &Marks,
+    from: u32,
+    count: u32,
+) -> Result<(), Fail>
+    requires few { length (D.stamps doc.old) < 1000 }
+    requires next { number ≡ length (D.stamps doc.old) }
+    ensures begun { OnOk result (length (D.stamps doc.new) ≡ number + 1) }
+{
+    check(doc.elements() < 1_000_000 && count < 1_000_000, "few")?;
+    check(doc.deletions() < 1_000_000, "few")?;
     check(marks.has(number), "it sees itself")?;
     doc.reserve(1, 0, count)?;
-    doc.begin(id, author.level);
+    doc.begin(id, level);
     for _ in 0..count {
-        if let Some(at) = doc.visible_at(&marks, from) {
+        if let Some(at) = doc.visible_at(marks, from) {
             doc.delete(at);
         }
     }
@@ -289,4 +321,96 @@ fn neighbours_are_deleted_as_one_run(rt: HostRuntime) -> Result<(), Fail> {
     type_chars(alloc, &mut doc, by("a-1", 1, ""), 0, &LETTERS)?;
     delete_chars(alloc, &mut doc, 1, by("b-1", 2, "11"), 3, 6)?;
     check(doc.runs() == 3, "one run deleted")
+}
+
+/// Marks of the first versions.
+fn first_marks(alloc: Global, count: u32) -> Result<Marks, Fail>
+    requires some { 0 < count }
+    ensures size { IfOk result (λ marks. length marks ≡ count) }
+{
+    let mut marks = Marks::of(alloc, count)?;
+    marks.add(0, count)?;
+    Ok(marks)
+}
+
+/// The identifier of a version by its number.
+fn name_of(alloc: Global, number: u32) -> Result<Id, Fail> {
+    let name = format!(in alloc; "a-{number}")?;
+    Ok(Id::read(alloc, name.as_bytes())?)
+}
+
+/// A run of 2,000 characters, and one character each by 599 versions that see all before them: at the front, in the
+/// middle and at the end, in turn.
+fn type_many<D: Document>(alloc: Global, doc: &mut D) -> Result<(), Fail>
+    requires new { length (D.stamps doc.old) ≡ 0 }
+    ensures begun { OnOk result (length (D.stamps doc.new) ≡ 600) }
+{
+    let run = vec![in alloc; 'x'; 2_000]?;
+    type_chars(alloc, doc, by("a-0", 1, ""), 0, &run)?;
+    for n in 1..600 {
+        let marks = first_marks(alloc, n)?;
+        let at = match n % 3 {
+            0 => 0,
+            1 => 1_000,
+            _ => 1_999 + n,
+        };
+        let letter = LETTERS[n as usize % 12];
+        type_seen(doc, name_of(alloc, n)?, n + 1, &marks, at, &[letter])?;
+    }
+    Ok(())
+}
+
+/// Deletes 700 elements that stand in several blocks.
+fn delete_many<D: Document>(alloc: Global, doc: &mut D) -> Result<(), Fail>
+    requires begun { length (D.stamps doc.old) ≡ 600 }
+{
+    let marks = first_marks(alloc, 601)?;
+    delete_seen(doc, 600, name_of(alloc, 600)?, 601, &marks, 800, 700)
+}
+
+/// Whether two documents answer alike what the first versions ask, everywhere.
+fn same_first<A: Document, B: Document>(
+    alloc: Global,
+    a: &A,
+    b: &B,
+    count: u32,
+) -> Result<bool, Fail>
+    requires some { 0 < count }
+{
+    let marks = first_marks(alloc, count)?;
+    let len = a.len(&marks);
+    let places = a.visible_between(alloc, &marks, 500, 2_500)?;
+    let others = b.visible_between(alloc, &marks, 500, 2_500)?;
+    Ok(
+        len == b.len(&marks)
+            && places.as_slice() == others.as_slice()
+            && same_places(a, b, &marks, len)
+            && a.text(alloc, &marks)?.as_slice() == b.text(alloc, &marks)?.as_slice(),
+    )
+}
+
+/// Whether two documents have the same elements at every fifth number, and none past the last.
+fn same_places<A: Document, B: Document>(a: &A, b: &B, marks: &Marks, len: u32) -> bool {
+    for n in 0..600 {
+        if a.visible_at(marks, n * 5) != b.visible_at(marks, n * 5) {
+            return false;
+        }
+    }
+    a.visible_at(marks, len).is_none() && b.visible_at(marks, len).is_none()
+}
+
+#[test]
+fn blocks_that_are_cut_answer_as_rows_do(rt: HostRuntime) -> Result<(), Fail> {
+    let alloc = rt.alloc();
+    let mut rows = PlainDocument::new(alloc);
+    let mut runs = SpanDocument::new(alloc);
+    type_many(alloc, &mut rows)?;
+    type_many(alloc, &mut runs)?;
+    check(same_first(alloc, &rows, &runs, 600)?, "all versions")?;
+    check(same_first(alloc, &rows, &runs, 301)?, "half of them")?;
+    delete_many(alloc, &mut rows)?;
+    delete_many(alloc, &mut runs)?;
+    check(same_first(alloc, &rows, &runs, 601)?, "after a deletion")?;
+    check(same_first(alloc, &rows, &runs, 600)?, "before it")?;
+    check(runs.runs() > 768, "more runs than three blocks hold")
 }

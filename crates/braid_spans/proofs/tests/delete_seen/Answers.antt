@@ -1,6 +1,6 @@
 use Rattle.std.proofs.Common.{◌≡◌, ℕ, ◌-◌, ◌∙◌, length, sym, subst, arith, Contains}
 use Rattle.braid_tree.proofs.Callers.{visible_there, visible_undeleted}
-use Rattle.braid_spans.proofs.tests.delete_chars.Goals as goal
+use Rattle.braid_spans.proofs.tests.delete_seen.Goals as goal
 
 pub delete-requires-clause-there : goal.delete-requires-clause-there
 delete-requires-clause-there g c = visible_there _ _ (g.D.Document.rows c.loop.doc) c.args.from c.in-Some.at (sym c.visible_at.ensures.value ∙ c.in-Some.is)

@@ -2,8 +2,8 @@ use Rattle.std.proofs.Common.{Option, MatchOption, length, ◌-◌, ◌∙◌, s
 use Rattle.braid_tree.specs.declared.at.At.{At}
 use Rattle.braid_tree.specs.Rows.{HasPlace, AreNewOrdinals}
 use Rattle.braid_tree.proofs.Callers.{answer_there, next_begin}
-use Rattle.braid_spans.proofs.tests.type_chars.Goals as goal
-use Rattle.braid_spans.proofs.tests.type_chars.Goals.{in-0, in_default}
+use Rattle.braid_spans.proofs.tests.type_seen.Goals as goal
+use Rattle.braid_spans.proofs.tests.type_seen.Goals.{in-0, in_default}
 
 pub insert_run-requires-clause-there : goal.insert_run-requires-clause-there
 insert_run-requires-clause-there g c =
