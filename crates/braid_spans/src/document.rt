@@ -18,12 +18,12 @@ use std::marker::Model;
 /// A document with one run for what was typed together and is deleted by the same versions.
 ///
 /// A run takes 36 bytes, a character 4, a deletion that is not joined to a neighbour's 12, and a version its identifier
-/// and 32 more; each up to twice that while room for more is kept, and two runs for each element and deletion that room
+/// and 40 more; each up to twice that while room for more is kept, and two runs for each element and deletion that room
 /// is kept for. A block of runs that was cut is half empty, so runs take up to twice their bytes.
 ///
 /// The runs stand in blocks of at most 256, each with its number of runs and of elements that nothing deletes. A run or
-/// a deletion looks its element up from the block of the last change on, passes over the blocks' numbers, and changes one
-/// block; where that is full it is cut in two. A version that deletes neighbours one after the other leaves one run more of
+/// a deletion looks its element up in the block of the last change, then from the one where a run of its version was put
+/// last on, passes over the blocks' numbers, and changes one block; where that is full it is cut in two. A version that deletes neighbours one after the other leaves one run more of
 /// them, or two. Where the marks hold every version `len` takes constant time, and `visible_at` and `visible_between` pass
 /// over the blocks' counts and then look into the blocks that they reach; else they are one pass over the runs, as `text`
 /// is.
@@ -99,6 +99,7 @@ impl Document for SpanDocument {
         self.versions.reserve(versions as usize)?;
         self.chars.reserve(elements as usize)?;
         self.links.reserve(deletions as usize)?;
+        self.runs.reserve_homes(versions as usize)?;
         self.runs
             .reserve(2 * (elements as usize + deletions as usize))?;
         self.left = Left {

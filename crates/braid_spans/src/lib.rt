@@ -15,6 +15,7 @@ mod blocks;
 mod deleting;
 mod document;
 mod editing;
+mod homes;
 mod inserting;
 mod left;
 mod link;

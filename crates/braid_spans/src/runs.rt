@@ -5,6 +5,7 @@ ghost use Rattle.braid_spans.specs.Blocks.{flat, sum_of};
 
 use crate::block::Block;
 use crate::blocks::{begin_blocks, insert_at, make_room, remove_at, reserve_blocks, set_at};
+use crate::homes::Homes;
 use crate::run::Run;
 use crate::sum::{Sum, count_runs, gap_of, spot_of};
 use braid_ids::Memory;
@@ -15,8 +16,8 @@ use std::marker::Model;
 /// The runs of a document in reading order, in blocks of at most 256.
 ///
 /// A full block is cut in two. `sums` has of each block how many runs it holds and how many of their elements nothing
-/// deletes, so a run is found by its number by a pass over them. `last` is the block of the last change: a look-up begins
-/// there, and nothing rests on it.
+/// deletes, so a run is found by its number by a pass over them. `last` is the block of the last change, and `homes` has
+/// the block where a run of each version was put last: a look-up begins there, and nothing rests on them.
 #[derive(Drop)]
 pub struct Runs {
     blocks: Vec<Block>,
@@ -25,6 +26,7 @@ pub struct Runs {
     undeleted: u32,
     room: usize,
     last: usize,
+    homes: Homes,
 }
 
 impl Model for Runs {
@@ -53,6 +55,7 @@ impl Runs {
             undeleted: 0,
             room: 0,
             last: 0,
+            homes: Homes::new(alloc),
         }
     }
 
@@ -127,6 +130,7 @@ impl Runs {
         ensures room { self.old.room ≤ self.new.room + 1 }
     {
         let gap = gap_of(&self.sums, i);
+        let count = self.blocks.len();
         let spot = make_room(&mut self.blocks, &mut self.sums, gap);
         insert_at(&mut self.blocks, &mut self.sums, spot, run);
         let added = run.undeleted();
@@ -134,6 +138,8 @@ impl Runs {
         self.undeleted += added;
         self.room -= 1;
         self.last = spot.block;
+        self.homes.follow_cut(&self.blocks, count, gap.block);
+        self.homes.note(run.first.version, spot.block);
     }
 
     /// Takes run number `i` out.
@@ -150,13 +156,24 @@ impl Runs {
         self.last = spot.block;
     }
 
-    /// The number of the run that holds the element at a place. It looks from the block of the last change on to the
-    /// end, then before it.
+    /// Makes room to note the places of this many more versions.
+    ///
+    /// Errors: `Memory` where there was none.
+    pub fn reserve_homes(&mut self, more: usize) -> Result<(), Memory>
+        ensures kept { self.new ≡ self.old }
+    {
+        self.homes.reserve(more)?;
+        Ok(())
+    }
+
+    /// The number of the run that holds the element at a place. It looks from the block of the last change or that where
+    /// a run of the element's version was put last on to the end, then before it.
     pub fn find(&self, at: At) -> usize
         requires there { (i : ℕ) × IsHeldAt self.now.list at i }
         ensures found { IsHeldAt self.now.list at result }
     {
-        let last = self.last.min(self.blocks.len());
+        let near = nearest(&self.blocks, self.last, self.homes.get(at.version), at);
+        let last = near.min(self.blocks.len());
         if let Some(index) = find_in(&self.blocks[last..], at) {
             return count_runs(&self.sums[..last]) + index;
         }
@@ -179,6 +196,20 @@ impl Runs {
         ensures value { result.now ≡ map sum_of self.now.blocks }
     {
         &self.sums
+    }
+}
+
+/// The block where a look-up begins: the one of the last change where it holds the element, else the home.
+fn nearest(blocks: &[Block], last: usize, home: Option<usize>, at: At) -> usize {
+    let Some(home) = home else {
+        return last;
+    };
+    let Some(block) = blocks.get(last) else {
+        return home;
+    };
+    match index_in(block.runs(), at) {
+        Some(_) => last,
+        None => home,
     }
 }
 
