@@ -16,3 +16,12 @@ pub mod StepLaws
 pub mod Judging
 pub mod Waiting
 pub mod Decoding
+pub mod ReplyDecisions
+pub mod ReplyReading
+pub mod BodyLaws
+pub mod BodySteps
+pub mod Pushes
+pub mod BodyReading
+pub mod CallTexts
+pub mod LinesBegun
+pub mod FramingPassed

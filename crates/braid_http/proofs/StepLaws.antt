@@ -18,7 +18,7 @@ use Rattle.braid_http.proofs.Looking.{look_new}
 use Rattle.braid_http.proofs.LineLaws.{same_block}
 use Rattle.braid_http.proofs.Openness.{open_chunks, open_line, open_data, open_behind, open_trailer}
 
-zero_first : (n : ℕ) → 0 + n ≡ n
+pub zero_first : (n : ℕ) → 0 + n ≡ n
 zero_first n = omega arith
 
 -- open behind whole chunks
@@ -159,7 +159,7 @@ data_more left n passed out new bytes some few within put d =
 
 -- behind data
 
-bare_data : (n : ℕ) → n + 0 ≡ n
+pub bare_data : (n : ℕ) → n + 0 ≡ n
 bare_data n = omega arith
 
 pub behind_open : (passed out bytes : List ℕ) → length bytes < 2 → ((x : ℕ) → bytes ≡ x ∷ [] → x ≡ 13) → IsInData 0 passed out → Leaves (Open (Data 0)) passed bytes out out
@@ -195,7 +195,7 @@ behind_bad passed out bytes end rest dep e d =
     regroup : (a b c e f : List ℕ) → (a ++ (b ++ c)) ++ (e ++ f) ≡ (a ++ (b ++ (c ++ e))) ++ f
     regroup a b c e f = simp append_assoc
 
-all_push : (cs : List Chunk) (c : Chunk) → AllByRecursion IsChunk cs → IsChunk c → AllByRecursion IsChunk (cs ++ c ∷ [])
+pub all_push : (cs : List Chunk) (c : Chunk) → AllByRecursion IsChunk cs → IsChunk c → AllByRecursion IsChunk (cs ++ c ∷ [])
 all_push [] c h i = (i, tt)
 all_push (d ∷ cs) c h i = (h.0, all_push cs c h.1 i)
 

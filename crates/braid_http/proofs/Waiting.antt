@@ -36,7 +36,7 @@ moves_none i = record { taken = none i.taken; left = front i.left; faults = refl
     front None = refl
     front (Some xs) = refl
 
-prepend-prepend : (a b : List ℕ) (o : Option (List ℕ)) → prepend_known a (prepend_known b o) ≡ prepend_known (a ++ b) o
+pub prepend-prepend : (a b : List ℕ) (o : Option (List ℕ)) → prepend_known a (prepend_known b o) ≡ prepend_known (a ++ b) o
 prepend-prepend a b None = refl
 prepend-prepend a b (Some xs) = ap Some (sym (append_assoc a b xs))
 

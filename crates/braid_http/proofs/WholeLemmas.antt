@@ -59,7 +59,7 @@ few_fields bytes headers count n fields same is =
     omega arith
 
 -- a head as long as the bytes leaves none of them
-ends_there : (bytes : List ℕ) (len : ℕ) → len ≡ length bytes → drop len bytes ≡ []
+pub ends_there : (bytes : List ℕ) (len : ℕ) → len ≡ length bytes → drop len bytes ≡ []
 ends_there bytes len is = ap (λ (n : ℕ). drop n bytes) is ∙ drop-length bytes
 
 pub whole_of : (bytes : List ℕ) (headers : List HeaderSpan) (spans : RequestSpans) (r : Head) → IsRequestOf bytes headers spans

@@ -11,3 +11,11 @@ pub mod HeadReads
 pub mod Steps
 pub mod Replies
 pub mod Waits
+pub mod Calls
+pub mod Responses
+pub mod ResponseReads
+pub mod Replying
+pub mod Bodies
+pub mod Draws
+pub mod BodySteps
+pub mod BodyReads

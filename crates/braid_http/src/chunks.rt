@@ -79,7 +79,7 @@ fn cut_line(bytes: &[u8]) -> Option<&[u8]>
 }
 
 /// The number of bytes that a chunk line announces.
-fn size_of_line(line: &[u8]) -> Option<u64>
+pub fn size_of_line(line: &[u8]) -> Option<u64>
     requires cut { IsCut line.now }
     ensures size { MatchOption result ((l : ChunkLine) → ¬ (ReadsChunkLine line.now l [])) (λ n. Announces line.now n) }
 {

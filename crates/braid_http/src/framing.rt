@@ -34,7 +34,7 @@ pub enum Framing {
 }
 
 /// The number that digits write.
-fn number(digits: &[u8]) -> u64
+pub fn number(digits: &[u8]) -> u64
     requires digits { Are is_digit digits.now }
     requires few { length digits.now ≤ 15 }
     ensures value { result ≡ digits_value 10 digits.now }
@@ -54,7 +54,7 @@ fn are_digits(bytes: &[u8]) -> bool
 }
 
 /// Whether a value is 1 to 15 digits.
-fn are_length_digits(value: &[u8]) -> bool
+pub fn are_length_digits(value: &[u8]) -> bool
     ensures { result ≡ are_length_digits value.now }
 {
     1 <= value.len() && value.len() <= MOST_DIGITS && are_digits(value)

@@ -88,7 +88,7 @@ fn add_field(
 
 /// The fields that spans name, in their order.
 #[tactic(auto, using(crate::proofs::FieldLemmas::one_more))]
-fn fields_at(
+pub fn fields_at(
     alloc: Global,
     bytes: &[u8],
     spans: &[HeaderSpan],

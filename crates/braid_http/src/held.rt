@@ -1,7 +1,8 @@
 //! The bytes read past the last message.
 
-ghost use Rattle.std.specs.Prelude.{◌≡◌, ◌≤◌, ◌<◌, [], drop, length, vec_len};
+ghost use Rattle.std.specs.Prelude.{◌≡◌, ◌≤◌, ◌<◌, [], drop, take, length, vec_len};
 ghost use Rattle.braid_http.specs.Reads.{Grows};
+ghost use Rattle.braid_http.specs.Draws.{DrawsBytes};
 
 use braid_io::{Link, Read};
 use std::alloc::Global;
@@ -64,6 +65,20 @@ impl Held {
         self.at += n;
     }
 
+    /// The next bytes, in the front of a buffer: those held first, and else those that one read gives.
+    pub fn next_bytes<K: Link>(&mut self, link: &mut K, buf: &mut [u8]) -> Read
+        requires some { 0 < length buf.old }
+        ensures draws { DrawsBytes result buf.new self.old self.new (K.intake link.old) (K.intake link.new) }
+        ensures kept { K.outflow link.new ≡ K.outflow link.old }
+    {
+        if self.get().is_empty() {
+            return link.read(buf);
+        }
+        let n = copy_front(self.get(), buf);
+        self.pass(n);
+        Read::Got(n)
+    }
+
     /// Reads a piece onto the bytes: at most as many as the buffer has room for.
     pub fn read_more<K: Link>(&mut self, link: &mut K, buf: &mut [u8]) -> More
         requires some { 0 < length buf.old }
@@ -97,4 +112,17 @@ fn move_front(bytes: &mut Vec<u8>, n: usize)
     let left = bytes.len() - n;
     bytes.rotate_left(n);
     bytes.truncate(left);
+}
+
+/// Copies as many of the bytes into the front of a buffer as there is room for.
+fn copy_front(bytes: &[u8], buf: &mut [u8]) -> usize
+    requires bytes { 0 < length bytes.now }
+    requires room { 0 < length buf.old }
+    ensures some { 0 < result }
+    ensures within { (result ≤ length bytes.now) × (result ≤ length buf.new) }
+    ensures copied { take result buf.new ≡ take result bytes.now }
+{
+    let n = bytes.len().min(buf.len());
+    buf[..n].copy_from_slice(&bytes[..n]);
+    n
 }

@@ -1,8 +1,10 @@
 //! Laws of the definitions, each the contract of a function that does nothing.
 
+ghost use Rattle.braid_http.specs.Bodies.{OneChunked, HasOneState};
 ghost use Rattle.braid_http.specs.Chunks.{OneBody, OneData};
 ghost use Rattle.braid_http.specs.Cuts.{OneCut};
 ghost use Rattle.braid_http.specs.Requests.{OneAnswer, StaysDecided, FewBytes};
+ghost use Rattle.braid_http.specs.Responses.{OneReply, ReplyStaysDecided};
 
 /// No bytes that decide an answer begin others that do, and they decide one.
 pub fn one_answer()
@@ -32,4 +34,25 @@ pub fn one_body()
 /// Chunked bytes have one data.
 pub fn one_data()
     ensures law { OneData }
+{}
+
+/// No bytes that decide a reply begin others that do, and they decide one answer.
+pub fn one_reply()
+    ensures law { OneReply }
+{}
+
+/// What is decided of a reply stays decided, whatever bytes follow.
+pub fn reply_stays_decided()
+    ensures law { ReplyStaysDecided }
+{}
+
+/// No chunked body begins another one, and one has one data.
+pub fn one_chunked()
+    ensures law { OneChunked }
+{}
+
+/// Bytes are not both a whole chunked body and against one, and what has come of one in part is neither, nor begins with
+/// either.
+pub fn one_state()
+    ensures law { HasOneState }
 {}

@@ -10,6 +10,9 @@
 //! Not promised: that a read ends, or that what was written reaches anyone.
 #![tactic(auto)]
 
+mod around;
+mod body;
+mod call;
 mod chunks;
 mod framing;
 mod head;
@@ -20,17 +23,25 @@ mod reading;
 mod refusal;
 mod reply;
 mod request;
+mod response;
 mod stop;
 mod wire;
 
+pub use body::{Body, BodyState};
+pub use call::{Call, request_bytes};
 pub use framing::Framing;
 pub use refusal::Refusal;
 pub use reply::{Reply, closing, reply_bytes};
 pub use request::{Asked, Request};
+pub use response::{BodyKind, Replied, ReplyHead};
 pub use stop::Stop;
 pub use wire::Wire;
 
 #[cfg(test)]
+mod call_tests;
+#[cfg(test)]
 mod reply_tests;
+#[cfg(test)]
+mod response_tests;
 #[cfg(test)]
 mod tests;

@@ -84,7 +84,7 @@ fn read_for_head<K: Link>(link: &mut K, held: &mut Held, buf: &mut [u8]) -> Resu
 }
 
 /// Reads on inside a request.
-fn read_on<K: Link>(link: &mut K, held: &mut Held, buf: &mut [u8]) -> Result<(), Stop>
+pub fn read_on<K: Link>(link: &mut K, held: &mut Held, buf: &mut [u8]) -> Result<(), Stop>
     requires some { 0 < length buf.old }
     ensures ok { OnOk result (Grows mores.Got held.old held.new (K.intake link.old) (K.intake link.new)) }
     ensures err { IfErr result (λ stop. Breaks stop held.old held.new (K.intake link.old) (K.intake link.new)) }

@@ -168,7 +168,7 @@ fn close_line(close: bool) -> &'static [u8]
 }
 
 /// Puts an identifier as a String at the end.
-fn push_id(alloc: Global, out: &mut Bytes, id: &Id) -> Result<(), Memory>
+pub fn push_id(alloc: Global, out: &mut Bytes, id: &Id) -> Result<(), Memory>
     ensures ok { OnOk result (out.new ≡ out.old ++ spelled_id id.now) }
 {
     let spelled = id.spell(alloc)?;
@@ -176,7 +176,7 @@ fn push_id(alloc: Global, out: &mut Bytes, id: &Id) -> Result<(), Memory>
 }
 
 /// Puts identifiers as a list at the end, behind a space where there are any.
-fn push_list(alloc: Global, out: &mut Bytes, ids: &Frontier) -> Result<(), Memory>
+pub fn push_list(alloc: Global, out: &mut Bytes, ids: &Frontier) -> Result<(), Memory>
     ensures ok { OnOk result (out.new ≡ out.old ++ list_text ids.now) }
 {
     for n in 0..ids.len() {
