@@ -1,6 +1,5 @@
 -- What reads of a body do.
 use Rattle.std.proofs.Common.{◌≡◌, ◌≢◌, ℕ, ◌+◌, ◌-◌, ◌<◌, ◌≤◌, append_assoc, List, [], ◌∷◌, ◌++◌, inl, inr, refl, ap, sym, subst, ◌∙◌, length, take, drop, flat_map, arith, length-append, append-nil, Ok, Err}
-use Rattle.std.specs.Io.KnownBytes.{IsAtEnd}
 use Rattle.std.proofs.lemmas.List.{take-append-le, length-take-le}
 use Rattle.braid_io.specs.Outside.{Intake}
 use Rattle.braid_io.specs.declared.source.Read.{Read}
@@ -22,9 +21,9 @@ use Rattle.braid_http.specs.BodySteps.{IsAround, Passes}
 use Rattle.braid_http.specs.declared.around.Passed.{Passed}
 use Rattle.braid_http.specs.declared.around.Passed.TheVariants as passes
 use Rattle.braid_http.specs.BodyReads.{IsIn, IsAt, HasRead, HasReadIn, Tells, IsOver, Stops, ReadsBody, room, failed_at, PassedAs, Ends, Takes, at_place}
-use Rattle.braid_http.specs.Draws.{Draws, DrawsAndFails}
+use Rattle.braid_http.specs.Draws.{Draws, DrawsToEnd, DrawsAndFails}
 use Rattle.braid_http.proofs.StepLaws.{bare_data}
-use Rattle.braid_http.proofs.BodySteps.{draws_both, draws_fail, trailing_last}
+use Rattle.braid_http.proofs.BodySteps.{draws_both, draws_end, draws_fail, trailing_last}
 
 -- what has come, by where the reader stands
 
@@ -126,7 +125,7 @@ longer new content b used more h = subst (λ z. HasRead new content z) (append_a
 stops_after : (state : BodyState) (kind : BodyKind) (used more held mid kept : List ℕ) (i j k : Intake) → Draws used held mid i j → Stops state kind more mid kept j k → Stops state kind (used ++ more) held kept i k
 stops_after Open kind used more held mid kept i j k d s = s
 stops_after Done kind used more held mid kept i j k d s = (draws_both used more held mid kept i j k d s.0, s.1)
-stops_after Torn kind used more held mid kept i j k d s = (draws_both used more held mid kept i j k d s.0, s.1)
+stops_after Torn kind used more held mid kept i j k d s = (draws_end used more held mid kept i j k d s.0, s.1)
 stops_after BadChunk kind used more held mid kept i j k d s = draws_both used more held mid kept i j k d s
 stops_after SourceFailed kind used more held mid kept i j k d s = draws_fail used more held mid kept i j k d s
 
@@ -162,16 +161,29 @@ begun_still : (kind : BodyKind) (content b : List ℕ) → HasBegun kind content
 begun_still kind content b h = subst (λ z. HasBegun kind content z) (sym (append-nil b)) h
 
 -- the source has ended where data was next
-pub data_ended : (r : Read) (next : Content) (old new : Body) (buf content b held kept : List ℕ) (i j : Intake) → Draws [] held kept i j → IsAtEnd j.left → Ends r next old new → IsIn old.kind next old.line content b → ReadsBody r buf new content b held kept i j
-data_ended r (Plain left) old new buf content b held kept i j d e t is =
+no_close : (k : BodyKind) → k ≡ kinds.Chunked → k ≡ kinds.ToClose → ⊥
+no_close k e f = cc
+
+pub data_ended : (r : Read) (next : Content) (old new : Body) (buf content b held kept : List ℕ) (i j : Intake) → DrawsToEnd [] held kept i j → Ends r next old new → IsIn old.kind next old.line content b → ReadsBody r buf new content b held kept i j
+data_ended r (Plain left) old new buf content b held kept i j d t is =
     moved r Failed buf new (failed_at Torn old.place old) content b held kept i j t.0 t.1
-    ([], (λ z. cc), (d, e), begun_still old.kind content b (begun_in old.kind (Plain left) old.line content b is))
-data_ended r Endless old new buf content b held kept i j d e t is =
+    ([], (λ z. cc), (d, (λ k. other old.kind (length b + left) is.0 k)), begun_still old.kind content b (begun_in old.kind (Plain left) old.line content b is))
+  where
+    other : (k : BodyKind) (n : ℕ) → k ≡ kinds.Length n → k ≡ kinds.ToClose → ⊥
+    other k n e f = cc
+data_ended r Endless old new buf content b held kept i j d t is =
     moved r End buf new (at_place Done old.place old) content b held kept i j t.0 t.1
-    ([], refl, (d, (λ k. e)), subst (λ k. IsBody k content (b ++ [])) (sym is.0) (is.1 ∙ sym (append-nil b)))
-data_ended r (Chunk left) old new buf content b held kept i j d e t is =
+    ([], refl, (d.draws, (λ k. (d.none, d.at_end))), subst (λ k. IsBody k content (b ++ [])) (sym is.0) (is.1 ∙ sym (append-nil b)))
+data_ended r (Chunk left) old new buf content b held kept i j d t is =
     moved r Failed buf new (failed_at Torn old.place old) content b held kept i j t.0 t.1
-    ([], (λ z. cc), (d, e), begun_still old.kind content b (begun_in old.kind (Chunk left) old.line content b is))
+    ([], (λ z. cc), (d, (λ k. no_close old.kind is.0 k)), begun_still old.kind content b (begun_in old.kind (Chunk left) old.line content b is))
+
+-- a read of the link failed where data was next
+pub data_failed : (r : Read) (next : Content) (old new : Body) (buf content b held kept : List ℕ) (i j : Intake) → DrawsAndFails [] held kept i j → r ≡ Failed → new ≡ failed_at SourceFailed (In next) old → IsIn old.kind next old.line content b
+    → ReadsBody r buf new content b held kept i j
+data_failed r next old new buf content b held kept i j d e f is =
+    moved r Failed buf new (failed_at SourceFailed (In next) old) content b held kept i j e f
+    ([], (λ z. cc), d, subst (λ z. IsIn old.kind next old.line content z) (sym (append-nil b)) is)
 
 -- what stands around data was passed
 
@@ -186,10 +198,7 @@ passed_err passes.Whole r framing old new after buf content b held kept i j ps p
     let same = pa.0 in
     let e : r ≡ End = cc in
     moved r End buf new (at_place Done old.place (with_line after old)) content b held kept i j e pa.1
-    (ps.0, refl, (ps.1, (λ k. absurd (not_both old.kind is.0 k))), subst (λ k. IsBody k content (b ++ ps.0)) (sym is.0) (ps.2 content b is.1))
-  where
-    not_both : (k : BodyKind) → k ≡ kinds.Chunked → k ≡ kinds.ToClose → ⊥
-    not_both k e f = cc
+    (ps.0, refl, (ps.1, (λ k. absurd (no_close old.kind is.0 k))), subst (λ k. IsBody k content (b ++ ps.0)) (sym is.0) (ps.2 content b is.1))
 passed_err passes.Against r framing old new after buf content b held kept i j ps pa is =
     let same = pa.0 in
     let e : r ≡ Failed = cc in
@@ -199,7 +208,7 @@ passed_err (passes.Torn f) r framing old new after buf content b held kept i j p
     let same = pa.0 in
     let e : r ≡ Failed = cc in
     moved r Failed buf new (failed_at Torn (Around f) (with_line after old)) content b held kept i j e pa.1
-    (ps.0, (λ z. cc), (ps.1, ps.2), begun_as old.kind kinds.Chunked content (b ++ ps.0) is.0 (around_come f after content (b ++ ps.0) (ps.3 content b is.1)))
+    (ps.0, (λ z. cc), (ps.1, (λ k. no_close old.kind is.0 k)), begun_as old.kind kinds.Chunked content (b ++ ps.0) is.0 (around_come f after content (b ++ ps.0) (ps.2 content b is.1)))
 passed_err (passes.Failed f) r framing old new after buf content b held kept i j ps pa is =
     let same = pa.0 in
     let e : r ≡ Failed = cc in

@@ -15,7 +15,7 @@ use Rattle.braid_http.specs.Heads.{line, lines, IsEmptyLine, IsFullLine, HasNoBl
 use Rattle.braid_http.specs.Chunks.{IsCut, Announces, Chunk, IsChunk, print_chunk, chunk_data, IsTrailer, bad_chunk, done, last, unread, departs, long_trailer}
 use Rattle.braid_http.specs.Bodies.{IsChunkedBody, IsInLine, IsInChunk, IsBehindChunk, IsBehindLast, HasCome, in_line, behind_chunk, behind_last, IsAgainst}
 use Rattle.braid_http.specs.BodySteps.{IsPartOf, Turns, IsTrailing}
-use Rattle.braid_http.specs.Draws.{Draws, DrawsAndFails}
+use Rattle.braid_http.specs.Draws.{Draws, DrawsToEnd, DrawsAndFails}
 use Rattle.braid_http.proofs.LineLaws.{no_block_in, push_each, lines_push}
 use Rattle.braid_http.proofs.StepLaws.{zero_first, bare_data, all_push}
 use Rattle.braid_http.proofs.Waiting.{moves_none, moves_both, prepend-prepend}
@@ -57,37 +57,11 @@ draws_fail a b held mid kept i j k x y = record {
   never_falls = let f = x.moves.faults in let g = y.never_falls in omega (arith, f, g);
   rose = rw x.moves.faults at y.rose;
   whole = joined a b held mid kept x.got y.got x.whole y.whole;
-  exact = exactly b kept mid x.got y.got x.exact y.exact y.whole;
+  none = y.none;
 }
 
--- those held
-pub draws_held : (used held kept : List ℕ) (n : ℕ) (i : Intake) → used ≡ take n held → kept ≡ drop n held → Draws used held kept i i
-draws_held used held kept n i u k = record {
-  got = [];
-  moves = moves_none i;
-  whole = append-nil held ∙ sym (take-append-drop n held) ∙ (λ x. sym u x ++ sym k x);
-  exact = inl refl;
-}
-
--- those that a read gave
-pub draws_read : (used held : List ℕ) (i j : Intake) → held ≡ [] → Moves used i j → Draws used held held i j
-draws_read used held i j e m = record {
-  got = used;
-  moves = m;
-  whole = ap (λ z. z ++ used) e ∙ sym (append-nil used) ∙ ap (λ z. used ++ z) (sym e);
-  exact = inr e;
-}
-
-pub draws_failed : (held : List ℕ) (i j : Intake) → j.taken ≡ i.taken → j.left ≡ i.left → i.faults ≤ j.faults → Rose i.faults j.faults → DrawsAndFails [] held held i j
-draws_failed held i j taken left never rose = record {
-  got = [];
-  taken = taken ∙ (moves_none i).taken;
-  left = sym left ∙ (moves_none j).left;
-  never_falls = never;
-  rose = rose;
-  whole = append-nil held;
-  exact = inl refl;
-}
+pub draws_end : (a b held mid kept : List ℕ) (i j k : Intake) → Draws a held mid i j → DrawsToEnd b mid kept j k → DrawsToEnd (a ++ b) held kept i k
+draws_end a b held mid kept i j k x y = record { draws = draws_both a b held mid kept i j k x y.draws; none = y.none; at_end = y.at_end }
 
 -- a byte of a line
 

@@ -1,6 +1,5 @@
 -- What stands around data is passed byte by byte.
 use Rattle.std.proofs.Common.{◌≡◌, ℕ, ◌+◌, ◌<◌, ◌≤◌, append_assoc, append-nil, List, [], ◌∷◌, ◌++◌, refl, ap, sym, subst, ◌∙◌, length, take, arith, get_or}
-use Rattle.std.specs.Io.KnownBytes.{IsAtEnd}
 use Rattle.braid_io.specs.Outside.{Intake}
 use Rattle.braid_http.specs.declared.response.BodyKind.TheVariants as kinds
 use Rattle.braid_http.specs.declared.around.Framing.{Framing}
@@ -9,8 +8,8 @@ use Rattle.braid_http.specs.declared.around.Next.TheVariants as nexts
 use Rattle.braid_http.specs.declared.around.Passed.TheVariants as passes
 use Rattle.braid_http.specs.Bodies.{IsChunkedBody, IsInChunk, IsAgainst}
 use Rattle.braid_http.specs.BodySteps.{IsAround, Comes, Passes}
-use Rattle.braid_http.specs.Draws.{Draws, DrawsAndFails}
-use Rattle.braid_http.proofs.BodySteps.{draws_none, draws_both, draws_fail}
+use Rattle.braid_http.specs.Draws.{Draws, DrawsToEnd, DrawsAndFails}
+use Rattle.braid_http.proofs.BodySteps.{draws_none, draws_both, draws_end, draws_fail}
 
 -- these bytes were passed, and the reading stands there
 pub record IsPassing (first : Framing) (begun : List ℕ) (now : Framing) (line held kept : List ℕ) (old new : Intake) : Type 0 where
@@ -69,9 +68,9 @@ passed_against first now begun line after held mid kept buf n i j k p s w l d f 
     let m = one_more first now begun line held mid kept buf n i j k p s w l d in
     (m.used ++ get_or buf 0 0 ∷ [], m.draws, (λ content b h. comes_after nexts.Against after content b m.used _ (f content (b ++ m.used) (m.at content b h))))
 
-pub passed_torn : (first now : Framing) (begun line held mid kept : List ℕ) (i j k : Intake) → IsPassing first begun now line held mid i j → Draws [] mid kept j k → IsAtEnd k.left → Passes (passes.Torn now) first begun line held kept i k
-passed_torn first now begun line held mid kept i j k p d e =
-    (p.used, subst (λ z. Draws z held kept i k) (append-nil p.used) (draws_both p.used [] held mid kept i j k p.draws d), e, p.at)
+pub passed_torn : (first now : Framing) (begun line held mid kept : List ℕ) (i j k : Intake) → IsPassing first begun now line held mid i j → DrawsToEnd [] mid kept j k → Passes (passes.Torn now) first begun line held kept i k
+passed_torn first now begun line held mid kept i j k p d =
+    (p.used, subst (λ z. DrawsToEnd z held kept i k) (append-nil p.used) (draws_end p.used [] held mid kept i j k p.draws d), p.at)
 
 pub passed_failed : (first now : Framing) (begun line held mid kept : List ℕ) (i j k : Intake) → IsPassing first begun now line held mid i j → DrawsAndFails [] mid kept j k → Passes (passes.Failed now) first begun line held kept i k
 passed_failed first now begun line held mid kept i j k p d =

@@ -18,7 +18,7 @@ use Rattle.braid_http.specs.declared.body.Place.TheVariants.{In, Around}
 use Rattle.braid_http.specs.declared.body.Body.{Body}
 use Rattle.braid_http.specs.Bodies.{IsBody, HasBegun, IsInChunk, IsAgainst}
 use Rattle.braid_http.specs.BodySteps.{IsAround}
-use Rattle.braid_http.specs.Draws.{Draws, DrawsAndFails}
+use Rattle.braid_http.specs.Draws.{Draws, DrawsToEnd, DrawsAndFails}
 
 -- a body of this kind that is not whole has come so far, and this is the data in it; data is next
 abbrev pub IsIn : BodyKind → Content → List ℕ → List ℕ → List ℕ → Type 0
@@ -59,11 +59,12 @@ IsOver BadChunk = Unit {0}
 IsOver SourceFailed = ⊥
 
 -- Why a read of a body that was not over gave no data: the body is whole, and where only the source's end ends it the
--- source has ended; the source has ended before; the bytes are against it; a read of the link failed.
+-- source has ended; the source has ended before, where something else ends it; the bytes are against it; a read of the
+-- link failed. Where the source has ended or failed, the wire keeps nothing.
 abbrev pub Stops : BodyState → BodyKind → List ℕ → List ℕ → List ℕ → Intake → Intake → Type 0
 Stops Open kind used held kept i j = ⊥
-Stops Done kind used held kept i j = Draws used held kept i j × (kind ≡ kinds.ToClose → IsAtEnd j.left)
-Stops Torn kind used held kept i j = Draws used held kept i j × IsAtEnd j.left
+Stops Done kind used held kept i j = Draws used held kept i j × (kind ≡ kinds.ToClose → (kept ≡ []) × IsAtEnd j.left)
+Stops Torn kind used held kept i j = DrawsToEnd used held kept i j × (kind ≢ kinds.ToClose)
 Stops BadChunk kind used held kept i j = Draws used held kept i j
 Stops SourceFailed kind used held kept i j = DrawsAndFails used held kept i j
 

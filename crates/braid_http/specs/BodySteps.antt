@@ -1,7 +1,6 @@
 -- Where a body reader stands, and what its steps do.
 use Rattle.std.specs.Prelude.{◌≡◌, ◌≢◌, ℕ, ◌+◌, ◌-◌, ◌<◌, ◌≤◌, ◌⊎◌, List, [], ◌∷◌, ◌++◌, length, take, flat_map, Option, Some, None}
 use Rattle.std.specs.List.{AllByRecursion}
-use Rattle.std.specs.Io.KnownBytes.{append_known, prepend_known, IsAtEnd}
 use Rattle.braid_io.specs.Outside.{Intake, Moves, Rose}
 use Rattle.braid_io.specs.declared.source.Read.{Read}
 use Rattle.braid_io.specs.declared.source.Read.TheVariants.{Got, End, Failed}
@@ -22,7 +21,7 @@ use Rattle.braid_http.specs.declared.around.Passed.TheVariants as passes
 use Rattle.braid_http.specs.Heads.{lines, IsEmptyLine, IsFullLine}
 use Rattle.braid_http.specs.Chunks.{IsCut, Announces, Chunk, IsChunk, print_chunk, chunk_data}
 use Rattle.braid_http.specs.Bodies.{IsChunkedBody, IsInLine, IsInChunk, IsBehindChunk, IsAgainst}
-use Rattle.braid_http.specs.Draws.{Draws, DrawsAndFails}
+use Rattle.braid_http.specs.Draws.{Draws, DrawsToEnd, DrawsAndFails}
 
 -- a part of a line of a trailer: nothing, a CR alone, or more
 abbrev pub IsPartOf : TrailerLine → List ℕ → Type 0
@@ -98,7 +97,7 @@ Passes passes.Whole old begun after held kept i j =
 Passes passes.Against old begun after held kept i j =
     (used : List ℕ) × Draws used held kept i j × ((content b : List ℕ) → IsAround old begun content b → IsAgainst kinds.Chunked content (b ++ used))
 Passes (passes.Torn new) old begun after held kept i j =
-    (used : List ℕ) × Draws used held kept i j × IsAtEnd j.left
+    (used : List ℕ) × DrawsToEnd used held kept i j
     × ((content b : List ℕ) → IsAround old begun content b → IsAround new after content (b ++ used))
 Passes (passes.Failed new) old begun after held kept i j =
     (used : List ℕ) × DrawsAndFails used held kept i j

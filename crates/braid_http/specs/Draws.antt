@@ -14,7 +14,13 @@ pub record Draws (used held kept : List ℕ) (old new : Intake) : Type 0 where
   pub whole : held ++ got ≡ used ++ kept
   pub exact : (got ≡ []) ⊎ (kept ≡ [])
 
--- the same, and then a read failed
+-- the same, and then the source had ended: nothing is left to be taken
+pub record DrawsToEnd (used held kept : List ℕ) (old new : Intake) : Type 0 where
+  pub draws : Draws used held kept old new
+  pub none : kept ≡ []
+  pub at_end : IsAtEnd new.left
+
+-- bytes were taken, all that were there, and then a read failed
 pub record DrawsAndFails (used held kept : List ℕ) (old new : Intake) : Type 0 where
   pub got : List ℕ
   pub taken : new.taken ≡ append_known old.taken got
@@ -22,12 +28,12 @@ pub record DrawsAndFails (used held kept : List ℕ) (old new : Intake) : Type 0
   pub never_falls : old.faults ≤ new.faults
   pub rose : Rose old.faults new.faults
   pub whole : held ++ got ≡ used ++ kept
-  pub exact : (got ≡ []) ⊎ (kept ≡ [])
+  pub none : kept ≡ []
 
 -- the next bytes of a connection, in the front of a buffer; or none, as the source has ended or the read failed
 abbrev pub DrawsBytes : Read → List ℕ → List ℕ → List ℕ → Intake → Intake → Type 0
 DrawsBytes (Got n) buf held kept old new = (0 < n) × (n ≤ length buf) × Draws (take n buf) held kept old new
-DrawsBytes End buf held kept old new = Draws [] held kept old new × IsAtEnd new.left
+DrawsBytes End buf held kept old new = DrawsToEnd [] held kept old new
 DrawsBytes Failed buf held kept old new = DrawsAndFails [] held kept old new
 
 -- a chunk line that has come in part: fewer than 256 bytes without a LF

@@ -35,8 +35,7 @@ returns-in-Against-clause-passes g c =
 
 pub returns-in-End-clause-passes : goal.returns-in-End-clause-passes
 returns-in-End-clause-passes g c =
-    let d = c.in-End.ensures.draws in
-    passed_torn _ _ _ _ _ _ _ _ _ _ c.passing.invariant.passing d.0 d.1
+    passed_torn _ _ _ _ _ _ _ _ _ _ c.passing.invariant.passing c.in-End.ensures.draws
 
 pub returns-in-Failed-clause-passes : goal.returns-in-Failed-clause-passes
 returns-in-Failed-clause-passes g c = passed_failed _ _ _ _ _ _ _ _ _ _ c.passing.invariant.passing c.in-Failed.ensures.draws

@@ -1,5 +1,5 @@
 use Rattle.std.proofs.Common.{◌≤◌, length, arith, length-take}
-use Rattle.braid_http.proofs.BodyReading.{data_got, data_ended}
+use Rattle.braid_http.proofs.BodyReading.{data_got, data_ended, data_failed}
 use Rattle.braid_http.proofs.body.Body.read_data.Goals as goal
 
 pub returns-in-Got-clause-reads : goal.returns-in-Got-clause-reads
@@ -10,11 +10,14 @@ returns-in-Got-clause-reads g c content b is =
 
 pub returns-in-End-clause-reads : goal.returns-in-End-clause-reads
 returns-in-End-clause-reads g c content b is =
-    let d = c.in-End.ensures.draws in
-    data_ended c.end.result c.args.next c.args.self.now c.end.new.self _ content b _ _ _ _ d.0 d.1 c.end.ensures.ends is
+    data_ended c.end.result c.args.next c.args.self.now c.end.new.self _ content b _ _ _ _ c.in-End.ensures.draws c.end.ensures.ends is
 
 pub returns-in-End-clause-answer : goal.returns-in-End-clause-answer
 returns-in-End-clause-answer g c = c.end.ensures.answer _
 
 pub returns-in-Failed-clause-answer : goal.returns-in-Failed-clause-answer
 returns-in-Failed-clause-answer g c = rw c.fail.ensures.failed c.fail.ensures.rises
+
+pub returns-in-Failed-clause-reads : goal.returns-in-Failed-clause-reads
+returns-in-Failed-clause-reads g c content b is =
+    data_failed c.fail.result c.args.next c.args.self.now c.fail.new.self _ content b _ _ _ _ c.in-Failed.ensures.draws c.fail.ensures.failed c.fail.ensures.value is
