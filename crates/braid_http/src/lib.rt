@@ -8,7 +8,8 @@
 //!
 //! `reply` gives the head of a reply, and `Body` reads the body behind it: data as it comes, with nothing read past it.
 //!
-//! `request_bytes` gives the bytes of each request of a client. `reply_bytes` gives the bytes of each reply, and `closing` puts `Connection: close` into one.
+//! `request_bytes` gives the bytes of each request of a client. `reply_bytes` gives the bytes of each reply, and `closing`
+//! puts `Connection: close` into one.
 //!
 //! Not promised: that a read ends, or that what was written reaches anyone.
 #![tactic(auto)]
