@@ -54,16 +54,29 @@ fn made(alloc: Global, confirmed: Vec<Update>, unsent: Vec<Update>) -> Result<Op
     }
 }
 
+/// The update of this identifier without parents and without a change.
+pub fn head(alloc: Global, id: Id) -> Result<Update, Fail> {
+    let none = Frontier::of(Vec::new(alloc))?;
+    let change = change_of(alloc, Edit::Nothing)?;
+    Ok(Update::build(id, none, change)?)
+}
+
 /// Updates without parents, as many as this.
 fn heads(alloc: Global, count: u64) -> Result<Vec<Update>, Fail> {
     let agent = Agent::read(alloc, b"b")?;
     let mut list = Vec::new(alloc);
     for n in 0..count {
         let id = agent.name(alloc, n + 1)?;
-        let none = Frontier::of(Vec::new(alloc))?;
-        list.push(Update::build(id, none, change_of(alloc, Edit::Nothing)?)?)?;
+        list.push(head(alloc, id)?)?;
     }
     Ok(list)
+}
+
+/// The entry that 2,001 updates without parents are refused for, with these unsent ones behind them.
+fn bad_head(alloc: Global, unsent: &[Line<'_>]) -> Result<Option<u32>, Fail> {
+    let unsent = updates(alloc, unsent)?;
+    let confirmed = heads(alloc, 2_001)?;
+    made(alloc, confirmed, unsent)
 }
 
 #[test]
@@ -101,9 +114,8 @@ fn two_lists_make_a_replica_or_name_an_entry(rt: HostRuntime) -> Result<(), Fail
 #[test]
 fn a_wide_frontier_names_the_last_entry(rt: HostRuntime) -> Result<(), Fail> {
     let alloc = rt.alloc();
-    let own = updates(alloc, &[make_line("a-1", "b-1 b-2", Edit::Nothing)])?;
-    let narrow = made(alloc, heads(alloc, 2_001)?, own)?;
-    let wide = made(alloc, heads(alloc, 2_001)?, Vec::new(alloc))?;
+    let narrow = bad_head(alloc, &[make_line("a-1", "b-1 b-2", Edit::Nothing)])?;
+    let wide = bad_head(alloc, &[])?;
     check(narrow == None && wide == Some(2_000), "the entries")
 }
 
@@ -189,17 +201,46 @@ fn writer(alloc: Global, name: &[u8], text: &str) -> Result<(Replica, Id), Fail>
     Ok((replica, id))
 }
 
+/// Both replicas' first versions land twice in the book.
+fn both_land(
+    alloc: Global,
+    book: &mut Replica,
+    a: &mut Replica,
+    b: &mut Replica,
+    ids: [&Id; 2],
+) -> Result<bool, Fail> {
+    let first = lands_twice(alloc, a, book, ids[0])?;
+    let second = lands_twice(alloc, b, book, ids[1])?;
+    Ok(first && second)
+}
+
+/// Both replicas read the book. Whether all three then have one digest.
+fn both_read(
+    alloc: Global,
+    book: &Replica,
+    a: &mut Replica,
+    b: &mut Replica,
+) -> Result<bool, Fail> {
+    let first = reads_two(alloc, book, a, [Want::Known, Want::New])?;
+    let second = reads_two(alloc, book, b, [Want::New, Want::Known])?;
+    let equal = has_digest(alloc, a, book)? && has_digest(alloc, b, book)?;
+    Ok(first && second && equal)
+}
+
+/// Two replicas, of which the second is made once more of its lists, and a new book.
+fn meet(alloc: Global, a: &mut Replica, kept: &Replica, ids: [&Id; 2]) -> Result<[bool; 2], Fail> {
+    let mut book = Replica::new(alloc, Agent::read(alloc, b"s")?);
+    let mut b = goes_back(alloc, kept, b"b")?;
+    let landed = both_land(alloc, &mut book, a, &mut b, ids)?;
+    let read = both_read(alloc, &book, a, &mut b)?;
+    Ok([landed, read])
+}
+
 #[test]
 fn replicas_catch_up_with_a_book(rt: HostRuntime) -> Result<(), Fail> {
     let alloc = rt.alloc();
-    let mut book = Replica::new(alloc, Agent::read(alloc, b"s")?);
     let (mut a, one) = writer(alloc, b"a", "hi")?;
     let (kept, two) = writer(alloc, b"b", "yo")?;
-    let mut b = goes_back(alloc, &kept, b"b")?;
-    let landed = lands_twice(alloc, &mut a, &mut book, &one)?
-        && lands_twice(alloc, &mut b, &mut book, &two)?;
-    let read = reads_two(alloc, &book, &mut a, [Want::Known, Want::New])?
-        && reads_two(alloc, &book, &mut b, [Want::New, Want::Known])?;
-    let equal = has_digest(alloc, &a, &book)? && has_digest(alloc, &b, &book)?;
-    check(landed && read && equal, "they have the book's graph")
+    let met = meet(alloc, &mut a, &kept, [&one, &two])?;
+    check(met == [true; 2], "they have the book's graph")
 }

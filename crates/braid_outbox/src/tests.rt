@@ -117,6 +117,27 @@ fn give(alloc: Global, replica: &mut Replica, rows: &[Offer<'_>]) -> Result<(), 
     Ok(())
 }
 
+/// Whether a replica holds the updates of these names.
+fn holds_names(alloc: Global, replica: &Replica, names: &str) -> Result<bool, Fail> {
+    let names = names_of(alloc, names)?;
+    Ok(replica.holds(&names))
+}
+
+/// Whether a replica has this text.
+fn has_text(alloc: Global, replica: &Replica, text: &[u8]) -> Result<bool, Fail> {
+    let text = Text::read(alloc, text)?;
+    Ok(replica.body(alloc)?.same(&text))
+}
+
+/// Whether a replica has three confirmed updates, two of them heads, from which it resumes, and their text.
+fn stands_at_two(alloc: Global, replica: &Replica) -> Result<[bool; 4], Fail> {
+    let counts = replica.confirmed() == 3 && replica.unsent() == 0;
+    let heads = holds_names(alloc, replica, "p-1 q-1")?;
+    let resumes = replica.resume(alloc)?.len() == 2;
+    let text = has_text(alloc, replica, b"aQPb")?;
+    Ok([counts, heads, resumes, text])
+}
+
 #[test]
 fn a_replica_learns_what_stands_on_confirmed_updates(rt: HostRuntime) -> Result<(), Fail> {
     let alloc = rt.alloc();
@@ -130,15 +151,8 @@ fn a_replica_learns_what_stands_on_confirmed_updates(rt: HostRuntime) -> Result<
         make_offer("q-1", "x-1", Edit::Patch(1, 1, "Q"), Want::New),
     ];
     let replica = given(alloc, &rows)?;
-    check(
-        replica.confirmed() == 3 && replica.unsent() == 0,
-        "the counts",
-    )?;
-    let heads = names_of(alloc, "p-1 q-1")?;
-    check(replica.holds(&heads), "the heads are confirmed")?;
-    check(replica.resume(alloc)?.len() == 2, "it resumes from both")?;
-    let text = Text::read(alloc, b"aQPb")?;
-    check(replica.body(alloc)?.same(&text), "the text")
+    let stands = stands_at_two(alloc, &replica)?;
+    check(stands == [true; 4], "counts, heads, where it resumes, text")
 }
 
 #[test]
