@@ -1,0 +1,176 @@
+-- Where a session was broken off, what was written is a front of its text.
+use Rattle.std.proofs.Common.{◌≡◌, ◌≢◌, ℕ, ◌+◌, ◌<◌, ◌⊎◌, inl, inr, Bool, true, false, ◌||◌, List, [], ◌∷◌, ◌++◌, refl, ap, sym, ◌∙◌, subst, length, take, append-nil, append_assoc, arith}
+use Rattle.std.specs.Prelude.{nat_le}
+use Rattle.std.specs.Io.KnownBytes.{append_known}
+use Rattle.std.proofs.lemmas.Grind.{common_steps}
+use Rattle.braid_io.proofs.Known.{append_known-append}
+use Rattle.braid_io.specs.Outside.{Intake, Outflow, WritesAll, WritesPart}
+use Rattle.braid_store.specs.declared.entry.Entry.{Entry}
+use Rattle.braid_store.specs.Books.{IsLegalBook}
+use Rattle.braid_http.specs.declared.request.Request.{Request}
+use Rattle.braid_http.specs.declared.reply.Reply.{Reply}
+use Rattle.braid_http.specs.declared.refusal.Refusal.{Refusal}
+use Rattle.braid_http.specs.Replies.{reply_text}
+use Rattle.braid_http.specs.Requests.{asked, IsDecided}
+use Rattle.braid_http.specs.Cuts.{Cuts, is_over, Tail, refusal, Stands, TailIs}
+use Rattle.braid_session.specs.declared.serving.Serving.{Serving}
+use Rattle.braid_session.specs.declared.denial.Denial.{Denial}
+use Rattle.braid_session.specs.declared.wish.Wish.{Wish}
+use Rattle.braid_session.specs.declared.wish.Wish.TheVariants.{Watch}
+use Rattle.braid_session.specs.declared.session.SessionEnd.{SessionEnd}
+use Rattle.braid_session.specs.declared.session.SessionEnd.TheVariants.{Closed, Stopped, Spent, Refused, Torn, ReadFault, WriteFault, Worn, Memory}
+use Rattle.braid_session.specs.declared.session.SessionNote.{SessionNote}
+use Rattle.braid_session.specs.Wishes.{Means, denied, wanted}
+use Rattle.braid_session.specs.Answers.{Answers, denial_reply}
+use Rattle.braid_session.specs.Sessions.{Placed, Course, goes_on, watched, Says, none, direct, turn, watches, Answered, WholeText, SessionText, whole, unmarked, watching, tail_text, refusal_reply}
+use Rattle.braid_session.specs.Ends.{Done, BreaksOff, Ends, Fits}
+use Rattle.braid_session.specs.Laws.{GoAlike, WroteFront}
+use Rattle.braid_session.proofs.Following.{says_both}
+use Rattle.braid_session.proofs.OneAnswers.{denied_or_wanted, one_denial, one_wish, holdable, legal_take, one_reply}
+use Rattle.braid_session.proofs.OneText.{watched_alone, head, rest_of, not_none, first_mark, more_marks, not_watched, Parts, GoesOn, compared, none_behind, whole_parts, unmarked_parts, watched_parts, one_text}
+
+-- a text that begins with another
+abbrev pub Begins : List ℕ → List ℕ → Type 0
+Begins front text = (rest : List ℕ) × (text ≡ front ++ rest)
+
+begins_more : (lead front text : List ℕ) → Begins front text → Begins (lead ++ front) (lead ++ text)
+begins_more lead front text (rest, e) = (rest, ap (λ z. lead ++ z) e ∙ sym (append_assoc lead front rest))
+
+begins_behind : (front text more : List ℕ) → Begins front text → Begins front (text ++ more)
+begins_behind front text more (rest, e) = (rest ++ more, ap (λ z. z ++ more) e ∙ append_assoc front rest more)
+
+begins_both : (a b c : List ℕ) → Begins a b → Begins b c → Begins a c
+begins_both a b c (x, e) (y, f) = (x ++ y, f ∙ ap (λ z. z ++ y) e ∙ append_assoc a x y)
+
+-- what further requests and marks say begins with what the first of them say
+says_front : (s : Serving) (by : ℕ) (book : List Entry) (qs ps rs : List Request) (ms ns marks : List ℕ) (es fs : List Placed) (t u : List ℕ) (c d : Course)
+    → IsLegalBook book → Says s by book qs ms es t c → c ≡ goes_on → Says s by book ps marks fs u d → ps ≡ qs ++ rs → marks ≡ ms ++ ns → Begins t u
+says_front s by book _ ps rs _ ns marks _ fs _ u _ d legal none g y e k = (u, refl)
+says_front s by book _ _ rs _ ns _ _ _ _ _ _ _ legal (direct q a qs ms es t c m x) g none e k = absurd (not_none [] (qs ++ rs) q e)
+says_front s by book _ _ rs _ ns _ _ _ _ _ _ _ legal (direct q a qs ms es t c m x) g (direct p b ps marks fs u d l y) e k =
+    let same : p ≡ q = head p q ps (qs ++ rs) e in
+    let lead : reply_text q.close (denial_reply a) ≡ reply_text p.close (denial_reply b) =
+    (λ i. reply_text (sym same i).close (denial_reply (one_denial s q a b m (subst (λ (z : Request). Means s z (denied b)) same l) i))) in
+    subst (λ (w : List ℕ). Begins (reply_text q.close (denial_reply a) ++ t) (w ++ u)) lead
+    (begins_more (reply_text q.close (denial_reply a)) t u (says_front s by book qs ps rs ms ns marks es fs t u c d legal x g y (rest_of p q ps (qs ++ rs) e) k))
+says_front s by book _ _ rs _ ns _ _ _ _ _ _ _ legal (direct q a qs ms es t c m x) g (turn p wish n reply new ps marks fs u d l b y) e k =
+    absurd (denied_or_wanted s q a wish m (subst (λ (z : Request). Means s z (wanted wish)) (head p q ps (qs ++ rs) e) l))
+says_front s by book _ _ rs _ ns _ _ _ _ _ _ _ legal (direct q a qs ms es t c m x) g (watches p from n marks stopped l held) e k =
+    absurd (denied_or_wanted s q a (Watch from) m (subst (λ (z : Request). Means s z (wanted (Watch from))) (head p q [] (qs ++ rs) e) l))
+says_front s by book _ _ rs _ ns _ _ _ _ _ _ _ legal (turn q wish n reply new qs ms es t c m a x) g none e k = absurd (not_none [] (qs ++ rs) q e)
+says_front s by book _ _ rs _ ns _ _ _ _ _ _ _ legal (turn q wish n reply new qs ms es t c m a x) g (direct p b ps marks fs u d l y) e k =
+    absurd (denied_or_wanted s q b wish (subst (λ (z : Request). Means s z (denied b)) (head p q ps (qs ++ rs) e) l) m)
+says_front s by book _ _ rs _ ns _ _ _ _ _ _ _ legal (turn q wish n reply new qs ms es t c m a x) g (turn p other n2 second more ps marks fs u d l b y) e k =
+    let same : p ≡ q = head p q ps (qs ++ rs) e in
+    let mark : n2 ≡ n = first_mark n2 n marks (ms ++ ns) k in
+    let means : Means s q (wanted other) = subst (λ (z : Request). Means s z (wanted other)) same l in
+    let first : Answers (take n book) by q.target other reply new = subst (λ (z : Wish). Answers (take n book) by q.target z reply new) (one_wish s q wish other m means) a in
+    let then : Answers (take n book) by q.target other second more =
+    subst (λ (z : Request). Answers (take n book) by z.target other second more) same (subst (λ (z : ℕ). Answers (take z book) by p.target other second more) mark b) in
+    let alike : reply ≡ second = one_reply (take n book) by q.target other reply second new more (legal_take n book legal) (holdable s q other means) first then in
+    let lead : reply_text q.close reply ≡ reply_text p.close second = (λ i. reply_text (sym same i).close (alike i)) in
+    subst (λ (z : List ℕ). Begins (reply_text q.close reply ++ t) (z ++ u)) lead
+    (begins_more (reply_text q.close reply) t u (says_front s by book qs ps rs ms ns marks es fs t u c d legal x g y (rest_of p q ps (qs ++ rs) e) (more_marks n2 n marks (ms ++ ns) k)))
+says_front s by book _ _ rs _ ns _ _ _ _ _ _ _ legal (turn q wish n reply new qs ms es t c m a x) g (watches p from n2 marks stopped l held) e k =
+    let same : q ≡ p = sym (head p q [] (qs ++ rs) e) in
+    let mark : n ≡ n2 = sym (first_mark n2 n marks (ms ++ ns) k) in
+    absurd (watched_alone s by book p from n2 wish reply new l held (subst (λ (z : Request). Means s z (wanted wish)) same m)
+    (subst (λ (z : Request). Answers (take n2 book) by z.target wish reply new) same (subst (λ (z : ℕ). Answers (take z book) by q.target wish reply new) mark a)))
+says_front s by book _ ps rs _ ns marks _ fs _ u _ d legal (watches q from n ms stopped m held) g y e k = absurd (not_watched stopped g)
+
+-- what was answered with the first of the marks is a front of what stands for all of them
+parts_front : (s : Serving) (by : ℕ) (book : List Entry) (r : List ℕ) (qs ps : List Request) (v w ms ns marks : List ℕ) (es : List Placed) (t u : List ℕ) (d : Course)
+    → IsLegalBook book → Cuts 0 false r qs v → Says s by book qs ms es t goes_on → marks ≡ ms ++ ns → Parts s by book r marks u d ps w → Begins t u
+parts_front s by book r qs ps v w ms ns marks es t u d legal c x k y = go (compared 0 false r qs ps v w c y.answered.cut)
+  where
+    go : GoesOn (is_over 0 false qs) qs ps v w ⊎ GoesOn (is_over 0 false ps) ps qs w v → Begins t u
+    go (inl g) = says_front s by book qs ps g.more ms ns marks es y.entries t u goes_on d legal x refl y.answered.says g.longer k
+    go (inr g) =
+        let same = none_behind s by book (is_over 0 false ps) w v ps qs marks ms ns y.entries es u t d goes_on g.more y.answered.says y.stops x g.longer k g.behind in
+        says_front s by book qs ps [] ms ns marks es y.entries t u goes_on d legal x refl y.answered.says (sym same.0 ∙ sym (append-nil qs)) k
+
+text_front : (s : Serving) (by : ℕ) (book : List Entry) (r : List ℕ) (qs : List Request) (v ms ns marks : List ℕ) (es : List Placed) (t text : List ℕ) (course : Course)
+    → IsLegalBook book → Cuts 0 false r qs v → Says s by book qs ms es t goes_on → marks ≡ ms ++ ns → SessionText s by book r marks text course → Begins t text
+text_front s by book r qs v ms ns marks es t _ _ legal c x k (whole text w) =
+    subst (Begins t) (sym w.spells) (begins_behind t w.front (tail_text w.tail) (parts_front s by book r qs w.requests v w.rest ms ns marks es t w.front goes_on legal c x k (whole_parts s by book r marks text w)))
+text_front s by book r qs v ms ns marks es t _ _ legal c x k (unmarked text w) = parts_front s by book r qs w.requests v w.rest ms ns marks es t text goes_on legal c x k (unmarked_parts s by book r marks text w)
+text_front s by book r qs v ms ns marks es t _ _ legal c x k (watching text stopped w) =
+    parts_front s by book r qs w.requests v w.rest ms ns marks es t text (watched stopped) legal c x k (watched_parts s by book r marks text stopped w)
+
+-- one request more in a cut
+cut_more : (n : ℕ) (closed : Bool) (bytes : List ℕ) (qs : List Request) (q : Request) (v rest : List ℕ) → Cuts n closed bytes qs v → is_over n closed qs ≡ false → IsDecided (asked q) v rest
+    → Cuts n closed bytes (qs ++ q ∷ []) rest
+cut_more n closed bytes [] q v rest c o d = (few n closed o, still n closed o, d.front, rest, d.decides, c ∙ d.whole, refl)
+  where
+    few : (n : ℕ) (b : Bool) → b || nat_le 10_000 n ≡ false → n < 10_000
+    few n true o = cc
+    few n false o = grind (arith, common_steps)
+
+    still : (n : ℕ) (b : Bool) → b || nat_le 10_000 n ≡ false → b ≡ false
+    still n true o = cc
+    still n false o = refl
+cut_more n closed bytes (p ∷ ps) q v rest c o d = (c.0, c.1, c.2, c.3, c.4, c.5, cut_more (n + 1) p.close c.3 ps q v rest c.6 o d)
+
+-- what was written of a text
+abbrev WroteOf : Outflow → Outflow → List ℕ → Type 0
+WroteOf before after text = (front rest : List ℕ) × (text ≡ front ++ rest) × (after.written ≡ append_known before.written front)
+
+broken_off : (before after : Outflow) (first other text : List ℕ) → BreaksOff first other before after → Begins (first ++ other) text → WroteOf before after text
+broken_off before after first other text b t =
+    let k = begins_both (first ++ b.then.front) (first ++ other) text (begins_more first b.then.front other (b.then.rest, b.then.whole)) t in (
+      first ++ b.then.front,
+      k.0,
+      k.1,
+      b.then.written ∙ ap (λ z. append_known z b.then.front) b.first.written ∙ append_known-append before.written first b.then.front,
+    )
+
+-- the text is that of all requests and of a refusal
+same_whole : (s : Serving) (by : ℕ) (book : List Entry) (r marks front text : List ℕ) (course : Course) → IsLegalBook book → WholeText s by book r marks front → SessionText s by book r marks text course → front ≡ text
+same_whole s by book r marks front _ _ legal w (whole text y) = (one_text s by book r marks front text goes_on goes_on legal (whole front w) (whole text y)).1 refl
+same_whole s by book r marks front _ _ legal w (unmarked text y) = (one_text s by book r marks front text goes_on goes_on legal (whole front w) (unmarked text y)).1 refl
+same_whole s by book r marks front _ _ legal w (watching text stopped y) =
+    absurd (one_text s by book r marks front text goes_on (watched stopped) legal (whole front w) (watching text stopped y)).0
+
+refused : (qs : List Request) (f : Refusal) (rest : List ℕ) → is_over 0 false qs ≡ false → Stands (refusal f) rest → TailIs (is_over 0 false qs) (refusal f) rest
+refused qs f rest o s = rw o s
+
+neither : (end : SessionEnd) → (end ≡ WriteFault → ⊥) → (end ≡ Memory → ⊥) → (end ≡ WriteFault) ⊎ (end ≡ Memory) → ⊥
+neither end a b (inl e) = a e
+neither end a b (inr e) = b e
+
+pub wrote_front : WroteFront
+wrote_front s note by book look entries from to before after x legal which text course y = go note.end which x.ends
+  where
+    go : (end : SessionEnd) → (end ≡ WriteFault) ⊎ (end ≡ Memory) → Ends end s by book look x.done note.marks.items entries to before after → WroteOf before after text
+    go WriteFault h (o, inl (ms, es, reply, i, k, l, b)) =
+        broken_off before after x.done.text reply text b
+        (text_front s by book x.r (x.done.requests ++ i.request ∷ []) i.rest (x.done.marks ++ ms) [] note.marks.items (x.done.entries ++ es) (x.done.text ++ reply) text course legal
+        (cut_more 0 false x.r x.done.requests i.request x.done.rest i.rest x.answered.cut o i.decided)
+        (says_both s by book x.done.requests (i.request ∷ []) x.done.marks ms x.done.entries es x.done.text reply goes_on goes_on refl x.answered.says i.says)
+        (k ∙ sym (append-nil (x.done.marks ++ ms))) y)
+    go WriteFault h (o, inr (g, f, t, b)) =
+        let w : WholeText s by book x.r note.marks.items (x.done.text ++ reply_text false (refusal_reply f)) = rw g.0 (record {
+          requests = x.done.requests;
+          rest = x.done.rest;
+          entries = x.done.entries;
+          front = x.done.text;
+          tail = refusal f;
+          answered = x.answered;
+          tail_is = refused x.done.requests f x.done.rest o t;
+          spells = refl;
+        }) in
+        broken_off before after x.done.text (reply_text false (refusal_reply f)) text b
+        ([], sym (same_whole s by book x.r note.marks.items (x.done.text ++ reply_text false (refusal_reply f)) text course legal w y) ∙ sym (append-nil (x.done.text ++ reply_text false (refusal_reply f))))
+    go Memory h (o, w, inl g) =
+        let k = text_front s by book x.r x.done.requests x.done.rest x.done.marks [] note.marks.items x.done.entries x.done.text text course legal x.answered.cut x.answered.says (g.0 ∙ sym (append-nil x.done.marks)) y in
+        (x.done.text, k.0, k.1, w.written)
+    go Memory h (o, w, inr (n, es, i, e, l)) =
+        let k = text_front s by book x.r x.done.requests x.done.rest x.done.marks (n ∷ []) note.marks.items x.done.entries x.done.text text course legal x.answered.cut x.answered.says e y in
+        (x.done.text, k.0, k.1, w.written)
+    go Closed h e = absurd (neither Closed (λ z. cc) (λ z. cc) h)
+    go Stopped h e = absurd e
+    go Spent h e = absurd (neither Spent (λ z. cc) (λ z. cc) h)
+    go (Refused status) h e = absurd (neither (Refused status) (λ z. cc) (λ z. cc) h)
+    go Torn h e = absurd (neither Torn (λ z. cc) (λ z. cc) h)
+    go ReadFault h e = absurd (neither ReadFault (λ z. cc) (λ z. cc) h)
+    go Worn h e = absurd (neither Worn (λ z. cc) (λ z. cc) h)

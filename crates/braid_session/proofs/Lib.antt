@@ -1,0 +1,14 @@
+pub mod Judging
+pub mod Answering
+pub mod Growing
+pub mod Wholes
+pub mod Passing
+pub mod Following
+pub mod Goings
+pub mod Endings
+pub mod Turns
+pub mod Replying
+pub mod OneAnswers
+pub mod OneText
+pub mod Fronts
+pub mod Nexts

@@ -1,0 +1,10 @@
+pub mod Denials
+pub mod Orders
+pub mod Wishes
+pub mod Answers
+pub mod Sessions
+pub mod Ends
+pub mod Judging
+pub mod Steps
+pub mod Telling
+pub mod Laws
