@@ -1,6 +1,8 @@
 //! Updates that a replica is given to learn, and what it tells then.
 
 ghost use Rattle.std.specs.Prelude.{◌≡◌};
+ghost use Rattle.std.specs.Prelude.{◌<◌, ◌^◌, IfOk, length};
+ghost use Rattle.braid_change.specs.Changes.{patches_of};
 
 use super::*;
 use braid_change::{Change, ListPatch, Patch, Text, Update};
@@ -66,7 +68,9 @@ pub fn names_of(alloc: Global, names: &str) -> Result<Frontier, Fail> {
     Ok(Frontier::of(ids)?)
 }
 
-pub fn change_of(alloc: Global, edit: Edit<'_>) -> Result<Change, Fail> {
+pub fn change_of(alloc: Global, edit: Edit<'_>) -> Result<Change, Fail>
+    ensures few { IfOk result (λ change. length (patches_of change) < 2 ^ 32) }
+{
     match edit {
         Edit::Body(text) => Ok(Change::Body(Text::read(alloc, text.as_bytes())?)),
         Edit::Patch(start, end, text) => {
