@@ -1,5 +1,5 @@
 -- Chunked bodies, whatever the length of their data: whole ones, what has come of one, and bytes against one.
-use Rattle.std.proofs.Common.{◌≡◌, ℕ, ◌+◌, ◌<◌, ◌≤◌, append_assoc, List, [], ◌∷◌, ◌++◌, inl, inr, refl, ap, sym, subst, ◌∙◌, length, flat_map, arith, length-append}
+use Rattle.std.proofs.Common.{◌≡◌, ℕ, ◌+◌, ◌≤◌, append_assoc, List, [], ◌∷◌, ◌++◌, inl, inr, refl, ap, sym, subst, ◌∙◌, length, flat_map, arith}
 use Rattle.std.specs.List.{AllByRecursion}
 use Rattle.braid_http.specs.Chunks.{Chunk, IsChunk, print_chunk, chunk_data, Close, done, bad_chunk, too_long, Closes, last, unread, over, departs, long_trailer, EndsChunked}
 use Rattle.braid_http.specs.Steps.{OpenAfter}

@@ -1,5 +1,5 @@
 -- What reads of a body do.
-use Rattle.std.proofs.Common.{◌≡◌, ◌≢◌, ℕ, ◌+◌, ◌-◌, ◌<◌, ◌≤◌, append_assoc, List, [], ◌∷◌, ◌++◌, inl, inr, refl, ap, sym, subst, ◌∙◌, length, take, drop, flat_map, arith, length-append, append-nil, Ok, Err}
+use Rattle.std.proofs.Common.{◌≡◌, ℕ, ◌+◌, ◌-◌, ◌≤◌, append_assoc, List, [], ◌∷◌, ◌++◌, inl, inr, refl, ap, sym, subst, ◌∙◌, length, take, flat_map, arith, length-append, append-nil, Ok, Err}
 use Rattle.std.proofs.lemmas.List.{take-append-le, length-take-le}
 use Rattle.braid_io.specs.Outside.{Intake}
 use Rattle.braid_io.specs.declared.source.Read.{Read}
@@ -22,7 +22,6 @@ use Rattle.braid_http.specs.declared.around.Passed.{Passed}
 use Rattle.braid_http.specs.declared.around.Passed.TheVariants as passes
 use Rattle.braid_http.specs.BodyReads.{IsIn, IsAt, HasRead, HasReadIn, Tells, IsOver, Stops, ReadsBody, room, failed_at, PassedAs, Ends, Takes, at_place}
 use Rattle.braid_http.specs.Draws.{Draws, DrawsToEnd, DrawsAndFails}
-use Rattle.braid_http.proofs.StepLaws.{bare_data}
 use Rattle.braid_http.proofs.BodySteps.{draws_both, draws_end, draws_fail, trailing_last}
 
 -- what has come, by where the reader stands

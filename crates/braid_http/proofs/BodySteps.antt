@@ -1,11 +1,10 @@
 -- The steps of reading what stands around data, and bytes that are taken off a connection.
-use Rattle.std.proofs.Common.{◌≡◌, ◌≢◌, ℕ, ◌+◌, ◌-◌, ◌<◌, ◌≤◌, ◌⊎◌, append_assoc, List, [], ◌∷◌, ◌++◌, inl, inr, refl, ap, sym, subst, ◌∙◌, length, take, drop, flat_map, arith, length-append, append-nil, Some, None}
+use Rattle.std.proofs.Common.{◌≡◌, ◌≢◌, ℕ, ◌+◌, ◌-◌, ◌<◌, ◌≤◌, ◌⊎◌, append_assoc, List, [], ◌∷◌, ◌++◌, inl, inr, refl, ap, sym, subst, ◌∙◌, length, flat_map, arith, length-append, append-nil, Some, None}
 use Rattle.std.specs.List.{AllByRecursion}
 use Rattle.std.specs.Io.KnownBytes.{append_known, prepend_known}
-use Rattle.std.proofs.lemmas.List.{take-append-drop}
 use Rattle.std.proofs.lemmas.Grind.{flat_map-append}
 use Rattle.httparse.specs.Grammar.{ChunkLine, ReadsChunkLine}
-use Rattle.braid_io.specs.Outside.{Intake, Moves, Rose}
+use Rattle.braid_io.specs.Outside.{Intake}
 use Rattle.braid_io.proofs.Known.{append_known-append}
 use Rattle.braid_ids.specs.Lists.{Lacks}
 use Rattle.braid_http.specs.declared.response.BodyKind.TheVariants as kinds
@@ -13,11 +12,11 @@ use Rattle.braid_http.specs.declared.around.TrailerLine.{TrailerLine}
 use Rattle.braid_http.specs.declared.around.TrailerLine.TheVariants.{Empty, Cr, Full}
 use Rattle.braid_http.specs.Heads.{line, lines, IsEmptyLine, IsFullLine, HasNoBlock}
 use Rattle.braid_http.specs.Chunks.{IsCut, Announces, Chunk, IsChunk, print_chunk, chunk_data, IsTrailer, bad_chunk, done, last, unread, departs, long_trailer}
-use Rattle.braid_http.specs.Bodies.{IsChunkedBody, IsInLine, IsInChunk, IsBehindChunk, IsBehindLast, HasCome, in_line, behind_chunk, behind_last, IsAgainst}
+use Rattle.braid_http.specs.Bodies.{IsChunkedBody, IsInLine, IsInChunk, IsBehindChunk, IsBehindLast, in_line, behind_chunk, behind_last, IsAgainst}
 use Rattle.braid_http.specs.BodySteps.{IsPartOf, Turns, IsTrailing}
 use Rattle.braid_http.specs.Draws.{Draws, DrawsToEnd, DrawsAndFails}
 use Rattle.braid_http.proofs.LineLaws.{no_block_in, push_each, lines_push}
-use Rattle.braid_http.proofs.StepLaws.{zero_first, bare_data, all_push}
+use Rattle.braid_http.proofs.StepLaws.{zero_first, all_push}
 use Rattle.braid_http.proofs.Waiting.{moves_none, moves_both, prepend-prepend}
 
 -- bytes taken off a connection

@@ -1,12 +1,10 @@
 -- What stands around data is passed byte by byte.
-use Rattle.std.proofs.Common.{◌≡◌, ℕ, ◌+◌, ◌<◌, ◌≤◌, append_assoc, append-nil, List, [], ◌∷◌, ◌++◌, refl, ap, sym, subst, ◌∙◌, length, take, arith, get_or}
+use Rattle.std.proofs.Common.{◌≡◌, ℕ, ◌+◌, ◌<◌, ◌≤◌, append_assoc, append-nil, List, [], ◌∷◌, ◌++◌, ap, sym, subst, length, take, arith, get_or}
 use Rattle.braid_io.specs.Outside.{Intake}
-use Rattle.braid_http.specs.declared.response.BodyKind.TheVariants as kinds
 use Rattle.braid_http.specs.declared.around.Framing.{Framing}
 use Rattle.braid_http.specs.declared.around.Next.{Next}
 use Rattle.braid_http.specs.declared.around.Next.TheVariants as nexts
 use Rattle.braid_http.specs.declared.around.Passed.TheVariants as passes
-use Rattle.braid_http.specs.Bodies.{IsChunkedBody, IsInChunk, IsAgainst}
 use Rattle.braid_http.specs.BodySteps.{IsAround, Comes, Passes}
 use Rattle.braid_http.specs.Draws.{Draws, DrawsToEnd, DrawsAndFails}
 use Rattle.braid_http.proofs.BodySteps.{draws_none, draws_both, draws_end, draws_fail}

@@ -25,3 +25,4 @@ pub mod BodyReading
 pub mod CallTexts
 pub mod LinesBegun
 pub mod FramingPassed
+pub mod WrittenLaws

@@ -1,11 +1,10 @@
 -- A byte more of a chunk's line that has come in part.
-use Rattle.std.proofs.Common.{◌≡◌, ◌≢◌, ℕ, ◌+◌, ◌<◌, ◌≤◌, List, [], ◌∷◌, ◌++◌, inl, inr, refl, ap, sym, subst, ◌∙◌, length, take, set, arith, length-append, length-take, get_or}
+use Rattle.std.proofs.Common.{◌≡◌, ◌≢◌, ℕ, ◌+◌, ◌<◌, ◌≤◌, List, [], ◌∷◌, ◌++◌, inl, inr, refl, ap, sym, subst, ◌∙◌, length, take, set, arith, length-append, length-take}
 use Rattle.std.proofs.lemmas.List.{take_more_set}
 use Rattle.httparse.specs.Grammar.{ChunkLine, ReadsChunkLine}
 use Rattle.braid_ids.specs.Lists.{Lacks}
 use Rattle.braid_http.specs.declared.around.Added.{Added}
-use Rattle.braid_http.specs.declared.around.Added.TheVariants.{More, Size, Unread}
-use Rattle.braid_http.specs.Heads.{line}
+use Rattle.braid_http.specs.declared.around.Added.TheVariants.{Size, Unread}
 use Rattle.braid_http.specs.Chunks.{IsCut, Announces}
 use Rattle.braid_http.specs.Draws.{IsLineBegun}
 use Rattle.braid_http.specs.BodySteps.{Adds}

@@ -1,5 +1,5 @@
 -- The bytes that decide a reply: no such bytes begin others, and they decide one answer.
-use Rattle.std.proofs.Common.{◌≡◌, ℕ, ◌-◌, ◌<◌, ◌≤◌, append_assoc, List, [], ◌++◌, refl, ap, sym, ◌∙◌, length, take, drop, arith, length-append, append-nil, Result, Ok, Err}
+use Rattle.std.proofs.Common.{◌≡◌, ℕ, ◌-◌, ◌<◌, ◌≤◌, append_assoc, List, [], ◌++◌, refl, ap, sym, ◌∙◌, length, take, arith, length-append, Result, Ok, Err}
 use Rattle.httparse.specs.Grammar.{ResponseHead, status_code}
 use Rattle.httparse.proofs.GrammarLemmas.{response_unique}
 use Rattle.braid_http.specs.declared.refusal.Refusal.{Refusal}
@@ -7,7 +7,7 @@ use Rattle.braid_http.specs.declared.refusal.Refusal.TheVariants.{LongHead, Many
 use Rattle.braid_http.specs.declared.response.BodyKind.{BodyKind}
 use Rattle.braid_http.specs.Heads.{HeadText, IsHeadText, IsHead, head_bytes, text_bytes, HasNoHead}
 use Rattle.braid_http.specs.Fields.{fields_of}
-use Rattle.braid_http.specs.Responses.{IsWholeResponse, SaysReply, kind_of, reply_head_of, ReplyAnswer, replied, refused, DecidesReply, long_head, many_fields, bad_head, by_fields, head, IsReplyDecided, IsReplyOpen, OneReply, ReplyStaysDecided}
+use Rattle.braid_http.specs.Responses.{IsWholeResponse, SaysReply, kind_of, reply_head_of, ReplyAnswer, replied, refused, DecidesReply, long_head, many_fields, bad_head, by_fields, head, IsReplyOpen, OneReply, ReplyStaysDecided}
 use Rattle.braid_http.proofs.LineLaws.{same_text}
 use Rattle.braid_http.proofs.Fronts.{same_front, cut_front_at}
 

@@ -1,10 +1,9 @@
 -- Reading for a reply: what a head that has come decides, and bytes that are read onto those held.
-use Rattle.std.proofs.Common.{◌≡◌, ◌≢◌, ℕ, ◌+◌, ◌-◌, ◌<◌, ◌≤◌, append_assoc, List, [], ◌∷◌, ◌++◌, inl, inr, refl, ap, sym, subst, ◌∙◌, length, take, drop, map, fold, All, arith, length-append, append-nil, length-take, Option, None, Some, Result, Ok, Err, IfErr}
-use Rattle.std.specs.Io.KnownBytes.{append_known, prepend_known}
-use Rattle.std.proofs.lemmas.List.{take_at, drop_at, take-append-drop}
+use Rattle.std.proofs.Common.{◌≡◌, ◌≢◌, ℕ, ◌-◌, ◌<◌, ◌≤◌, append_assoc, List, [], ◌++◌, inl, inr, refl, ap, sym, subst, ◌∙◌, length, take, drop, map, fold, All, arith, length-append, append-nil, length-take, Result, Ok, Err}
+use Rattle.std.specs.Io.KnownBytes.{prepend_known}
+use Rattle.std.proofs.lemmas.List.{drop_at, take-append-drop}
 use Rattle.braid_io.specs.Outside.{Intake, Moves, Rose}
-use Rattle.braid_io.proofs.Known.{append_known-append}
-use Rattle.httparse.specs.Grammar.{ResponseHead, ReadsResponse, status_code}
+use Rattle.httparse.specs.Grammar.{ResponseHead, ReadsResponse}
 use Rattle.httparse.specs.Spans.{header_bytes, IsResponseOf}
 use Rattle.httparse.specs.declared.spans.ResponseSpans.{ResponseSpans}
 use Rattle.httparse.specs.declared.spans.HeaderSpan.{HeaderSpan}
@@ -17,17 +16,17 @@ use Rattle.braid_http.specs.declared.response.BodyKind.{BodyKind}
 use Rattle.braid_http.specs.declared.response.ReplyHead.{ReplyHead}
 use Rattle.braid_http.specs.declared.response.ResponseParts.{ResponseParts}
 use Rattle.braid_http.specs.Heads.{HeadText, IsHeadText, IsHead, head_bytes, text_bytes, HasNoHead}
-use Rattle.braid_http.specs.Fields.{append_named, fields_of}
+use Rattle.braid_http.specs.Fields.{append_named}
 use Rattle.braid_http.specs.HeadReads.{IsGoodAt}
 use Rattle.braid_http.specs.Looks.{IsHeadAt}
 use Rattle.braid_http.specs.Waits.{Breaks}
 use Rattle.braid_http.specs.Responses.{IsWholeResponse, SaysReply, kind_of, reply_head_of, ReplyAnswer, replied, refused, long_head, many_fields, bad_head, by_fields, head, IsReplyDecided, IsReplyOpen}
 use Rattle.braid_http.specs.ResponseReads.{HoldsReply}
-use Rattle.braid_http.specs.Replying.{WasNeededForReply, TookForReply, TookForReplyAndFailed, AnswersReply, Replies, replied_of, JudgesReply}
+use Rattle.braid_http.specs.Replying.{TookForReply, TookForReplyAndFailed, AnswersReply, Replies, replied_of, JudgesReply}
 use Rattle.braid_http.proofs.LineLaws.{same_text}
 use Rattle.braid_http.proofs.WholeLemmas.{all_short, same_fields, few_fields, ends_there}
 use Rattle.braid_http.proofs.Judging.{head_slice}
-use Rattle.braid_http.proofs.Waiting.{moves_none, moves_both, prepend-prepend}
+use Rattle.braid_http.proofs.Waiting.{moves_none, moves_both}
 
 -- what the parser finds is the head that the bytes are
 pub whole_response : (bytes : List ℕ) (headers : List HeaderSpan) (spans : ResponseSpans) (r : ResponseParts) → IsResponseOf bytes headers spans

@@ -1,11 +1,11 @@
 -- Bodies of replies, whole and in part (RFC 9112, sections 6 and 7.1).
-use Rattle.std.specs.Prelude.{◌≡◌, ℕ, ◌+◌, ◌<◌, ◌≤◌, ◌⊎◌, List, [], ◌∷◌, ◌++◌, length, flat_map}
+use Rattle.std.specs.Prelude.{◌≡◌, ℕ, ◌+◌, ◌<◌, ◌⊎◌, List, [], ◌∷◌, ◌++◌, length, flat_map}
 use Rattle.std.specs.List.{AllByRecursion}
 use Rattle.braid_ids.specs.Lists.{Lacks}
 use Rattle.braid_http.specs.declared.response.BodyKind.{BodyKind}
 use Rattle.braid_http.specs.declared.response.BodyKind.TheVariants.{Length, Chunked, ToClose}
 use Rattle.braid_http.specs.Heads.{HasNoBlock}
-use Rattle.braid_http.specs.Chunks.{Announces, Chunk, IsChunk, print_chunk, chunk_data, done, bad_chunk, EndsChunked, IsChunked}
+use Rattle.braid_http.specs.Chunks.{Announces, Chunk, IsChunk, print_chunk, chunk_data, bad_chunk, EndsChunked, IsChunked}
 
 -- b is a chunked body, whatever the length of its data, and this is its data
 pub record IsChunkedBody (content b : List ℕ) : Type 0 where

@@ -1,12 +1,8 @@
 -- Where a body reader stands, and what its steps do.
-use Rattle.std.specs.Prelude.{◌≡◌, ◌≢◌, ℕ, ◌+◌, ◌-◌, ◌<◌, ◌≤◌, ◌⊎◌, List, [], ◌∷◌, ◌++◌, length, take, flat_map, Option, Some, None}
+use Rattle.std.specs.Prelude.{◌≡◌, ℕ, ◌+◌, ◌-◌, ◌<◌, List, [], ◌∷◌, ◌++◌, length, flat_map, Option, Some, None}
 use Rattle.std.specs.List.{AllByRecursion}
-use Rattle.braid_io.specs.Outside.{Intake, Moves, Rose}
-use Rattle.braid_io.specs.declared.source.Read.{Read}
-use Rattle.braid_io.specs.declared.source.Read.TheVariants.{Got, End, Failed}
+use Rattle.braid_io.specs.Outside.{Intake}
 use Rattle.httparse.specs.Grammar.{ChunkLine, ReadsChunkLine}
-use Rattle.braid_ids.specs.Lists.{Lacks}
-use Rattle.braid_http.specs.declared.response.BodyKind.{BodyKind}
 use Rattle.braid_http.specs.declared.response.BodyKind.TheVariants as kinds
 use Rattle.braid_http.specs.declared.around.Framing.{Framing}
 use Rattle.braid_http.specs.declared.around.Framing.TheVariants.{Line, Behind, BehindCr, Trailer}

@@ -19,3 +19,4 @@ pub mod Bodies
 pub mod Draws
 pub mod BodySteps
 pub mod BodyReads
+pub mod WrittenChunks

@@ -1,5 +1,5 @@
 -- What a wire answers where a reply is awaited, and what it reads for that.
-use Rattle.std.specs.Prelude.{◌≡◌, ◌≢◌, ℕ, ◌≤◌, ◌⊎◌, List, [], ◌++◌, length, drop, Result, Ok, Err, Option, None, Some}
+use Rattle.std.specs.Prelude.{◌≡◌, ◌≢◌, ℕ, ◌≤◌, ◌⊎◌, List, [], ◌++◌, Result, Ok, Err, Option, None, Some}
 use Rattle.std.specs.Io.KnownBytes.{append_known, prepend_known, IsAtEnd}
 use Rattle.braid_io.specs.Outside.{Intake, Moves, Rose}
 use Rattle.braid_http.specs.declared.stop.Stop.{Stop}

@@ -5,6 +5,7 @@ ghost use Rattle.braid_http.specs.Chunks.{OneBody, OneData};
 ghost use Rattle.braid_http.specs.Cuts.{OneCut};
 ghost use Rattle.braid_http.specs.Requests.{OneAnswer, StaysDecided, FewBytes};
 ghost use Rattle.braid_http.specs.Responses.{OneReply, ReplyStaysDecided};
+ghost use Rattle.braid_http.specs.WrittenChunks.{WritesChunked};
 
 /// No bytes that decide an answer begin others that do, and they decide one.
 pub fn one_answer()
@@ -55,4 +56,10 @@ pub fn one_chunked()
 /// either.
 pub fn one_state()
     ensures law { HasOneState }
+{}
+
+/// Chunks as a server writes them (the size in lower-case hexadecimal without leading zeros, CRLF, the data, CRLF), and
+/// then the last one, are a chunked body of the joined data.
+pub fn writes_chunked()
+    ensures law { WritesChunked }
 {}

@@ -1,4 +1,4 @@
-use Rattle.braid_http.proofs.BodySteps.{trailing_done, trailing_bad, trailing_on}
+use Rattle.braid_http.proofs.BodySteps.{trailing_done, trailing_bad}
 use Rattle.braid_http.proofs.around.in_trailer.Goals as goal
 
 pub returns-in_default-clause-comes : goal.returns-in_default-clause-comes

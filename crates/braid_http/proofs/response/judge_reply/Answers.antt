@@ -1,4 +1,4 @@
-use Rattle.std.proofs.Common.{◌≡◌, ◌-◌, take, drop, sym, ◌∙◌, rules}
+use Rattle.std.proofs.Common.{◌≡◌, ◌-◌, take, drop, rules}
 use Rattle.braid_http.proofs.ReplyReading.{late_reply, many_reply_lines, unread_reply, refused_reply, whole_reply}
 use Rattle.braid_http.proofs.response.judge_reply.Goals as goal
 

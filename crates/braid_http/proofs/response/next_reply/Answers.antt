@@ -2,7 +2,7 @@ use Rattle.std.proofs.Common.{◌∙◌, refl}
 use Rattle.std.proofs.lemmas.Result.{err_from_is_err_and}
 use Rattle.braid_http.proofs.Looking.{head_new, head_more}
 use Rattle.braid_http.proofs.ReplyDecisions.{open_reply}
-use Rattle.braid_http.proofs.ReplyReading.{took_none, took_more, breaks_reply, judged_reply, long_reply, answered_reply}
+use Rattle.braid_http.proofs.ReplyReading.{took_none, took_more, breaks_reply, long_reply}
 use Rattle.braid_http.proofs.response.next_reply.Goals as goal
 
 pub waiting-init : goal.waiting-init
