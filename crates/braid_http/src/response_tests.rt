@@ -1,6 +1,6 @@
 use super::*;
 use braid_ids::{Bytes, Memory};
-use braid_io::{MemLink, Read};
+use braid_io::{MemLink, Read, Source};
 use std::alloc::Global;
 use std::test::Fail;
 
@@ -259,5 +259,51 @@ fn a_failed_read_is_told(rt: HostRuntime) -> Result<(), Fail> {
         head.get() == b"ReadFault".as_slice()
             && body.get() == b"200 the  SourceFailed\nTorn".as_slice()
     );
+    Ok(())
+}
+
+/// Puts the data of a body down, and how it ended, as its reader gives them.
+fn put_read(
+    text: &mut Bytes,
+    wire: &mut Wire,
+    link: &mut MemLink,
+    kind: BodyKind,
+) -> Result<(), Memory> {
+    let mut reader = wire.body(link, kind);
+    let mut buf = [0; 5];
+    for _ in 0..40 {
+        match reader.read(&mut buf) {
+            Read::Got(n) => text.push(&buf[..n])?,
+            Read::End | Read::Failed => break,
+        }
+    }
+    text.push(name_of_state(reader.state()))
+}
+
+/// What is said of two replies that come in such pieces, whose bodies are read through a reader of their own.
+fn told_by_readers(alloc: Global, left: Bytes, piece: usize) -> Result<Bytes, Memory> {
+    let mut text = Bytes::of(alloc, b"")?;
+    let mut link = MemLink::new(alloc, left, piece.max(1), 0, Vec::new(alloc))?;
+    let mut wire = Wire::new(alloc);
+    for _ in 0..2 {
+        match wire.reply(alloc, &mut link) {
+            Replied::Head(head) => put_read(&mut text, &mut wire, &mut link, head.body)?,
+            _ => break,
+        }
+    }
+    Ok(text)
+}
+
+#[test]
+fn a_reader_leaves_what_stands_behind_its_body(rt: HostRuntime) -> Result<(), Fail> {
+    let alloc = rt.alloc();
+    let replies =
+        b"HTTP/1.1 209 S\r\nTransfer-Encoding: chunked\r\n\r\n2\r\nhi\r\nb\r\nhello world\r\n0\r\n\r\nHTTP/1.1 200 OK\r\nContent-Length: 4\r\n\r\nnext";
+    let mut all = true;
+    for piece in [1, 7, 1_000_000] {
+        let text = told_by_readers(alloc, Bytes::of(alloc, replies)?, piece)?;
+        all = text.get() == b"hihello world Done\nnext Done\n".as_slice() && all;
+    }
+    assert!(rt; all);
     Ok(())
 }
