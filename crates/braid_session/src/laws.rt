@@ -23,7 +23,8 @@ pub fn one_text()
     ensures unwatched { OneTextUnwatched }
 {}
 
-/// At each end but `WriteFault` and `Memory` the whole text was written: at each but `Worn`, every request has its reply.
+/// At each end but `WriteFault` and `Memory` the whole text was written: at each but `Worn`, every request has its
+/// reply.
 ///
 /// At those two what was written is a front of the text, where the history is legal.
 pub fn wrote_all()

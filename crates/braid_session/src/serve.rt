@@ -49,8 +49,10 @@ fn reply_of<R: Wait, L: Bell>(
 ) -> Result<Bytes, NoReply>
     requires hall { pass.old.hall ≡ room.now.hall.now }
     requires idle { pass.old.held ≡ false }
-    ensures ok { IfOk result (λ bytes. RepliedBy serving_now request.now bytes pass.old pass.new marks.old.items marks.new.items (L.ringing bell.old) (L.ringing bell.new)) }
-    ensures err { IfErr result (λ no. NotReplied serving_now no request.now pass.old pass.new marks.old.items marks.new.items (L.ringing bell.old) (L.ringing bell.new)) }
+    ensures ok { IfOk result (λ bytes. RepliedBy serving_now request.now bytes pass.old pass.new
+        marks.old.items marks.new.items (L.ringing bell.old) (L.ringing bell.new)) }
+    ensures err { IfErr result (λ no. NotReplied serving_now no request.now pass.old pass.new
+        marks.old.items marks.new.items (L.ringing bell.old) (L.ringing bell.new)) }
 {
     let Request { target, close, .. } = request;
     match wish_of(room.alloc, SERVING, request) {
@@ -96,7 +98,8 @@ fn answer_request<R: Wait, K: Link, L: Bell>(
 ) -> Next
     requires hall { pass.old.hall ≡ room.now.hall.now }
     requires idle { pass.old.held ≡ false }
-    ensures answers { AnswersTo serving_now result request.now pass.old pass.new marks.old.items marks.new.items (L.ringing bell.old) (L.ringing bell.new) (K.outflow link.old) (K.outflow link.new) }
+    ensures answers { AnswersTo serving_now result request.now pass.old pass.new marks.old.items marks.new.items
+        (L.ringing bell.old) (L.ringing bell.new) (K.outflow link.old) (K.outflow link.new) }
     ensures kept { K.intake link.new ≡ K.intake link.old }
 {
     match reply_of(room, pass, marks, bell, request) {
@@ -138,8 +141,22 @@ fn answer_next<R: Wait, K: Link, L: Bell>(
     requires live { wire.old.over ≡ None }
     ensures live { IfAnswered result (wire.new.over ≡ None) }
     ensures does { Does serving_now result
-        (record { wire = wire.old; marks = marks.old.items; pass = pass.old; intake = K.intake link.old; outflow = K.outflow link.old; ringing = L.ringing bell.old })
-        (record { wire = wire.new; marks = marks.new.items; pass = pass.new; intake = K.intake link.new; outflow = K.outflow link.new; ringing = L.ringing bell.new }) }
+        (record {
+          wire = wire.old;
+          marks = marks.old.items;
+          pass = pass.old;
+          intake = K.intake link.old;
+          outflow = K.outflow link.old;
+          ringing = L.ringing bell.old;
+        })
+        (record {
+          wire = wire.new;
+          marks = marks.new.items;
+          pass = pass.new;
+          intake = K.intake link.new;
+          outflow = K.outflow link.new;
+          ringing = L.ringing bell.new;
+        }) }
 {
     match ask(room.alloc, wire, link) {
         Asked::Request(request) => {
@@ -158,8 +175,8 @@ fn answer_next<R: Wait, K: Link, L: Bell>(
 ///
 /// Each request that is not denied takes one turn, and no other does. After an entry is added the bell is rung.
 ///
-/// The note has the marks of the turns, the number of requests whose reply was written whole, and the end. At `Memory` nothing
-/// more is written; the request at hand may then have its entry without a reply.
+/// The note has the marks of the turns, the number of requests whose reply was written whole, and the end. At `Memory`
+/// nothing more is written; the request at hand may then have its entry without a reply.
 pub fn serve_session<R: Wait, K: Link, L: Bell>(
     alloc: Global,
     rt: &R,
@@ -170,7 +187,8 @@ pub fn serve_session<R: Wait, K: Link, L: Bell>(
 ) -> SessionNote
     requires hall { pass.old.hall ≡ hall.now }
     requires idle { pass.old.held ≡ false }
-    ensures serves { Serves serving_now result pass.old pass.new (K.intake link.old) (K.intake link.new) (K.outflow link.old) (K.outflow link.new) (L.ringing bell.old) (L.ringing bell.new) }
+    ensures serves { Serves serving_now result pass.old pass.new (K.intake link.old) (K.intake link.new)
+        (K.outflow link.old) (K.outflow link.new) (L.ringing bell.old) (L.ringing bell.new) }
 {
     let room = Room { alloc, rt, hall };
     let mut wire = Wire::new(alloc);

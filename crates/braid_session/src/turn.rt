@@ -56,8 +56,10 @@ pub(crate) fn take_turn<R: Wait, L: Bell>(
     requires idle { pass.old.held ≡ false }
     requires short { length path.now ≤ 1024 }
     requires at_once { IsAtOnce wish }
-    ensures ok { IfOk result (λ reply. TookTurn path.now wish reply pass.old pass.new marks.old.items marks.new.items (L.ringing bell.old) (L.ringing bell.new)) }
-    ensures err { IfErr result (λ no. TookNone no path.now wish pass.old pass.new marks.old.items marks.new.items (L.ringing bell.old) (L.ringing bell.new)) }
+    ensures ok { IfOk result (λ reply. TookTurn path.now wish reply pass.old pass.new
+        marks.old.items marks.new.items (L.ringing bell.old) (L.ringing bell.new)) }
+    ensures err { IfErr result (λ no. TookNone no path.now wish pass.old pass.new
+        marks.old.items marks.new.items (L.ringing bell.old) (L.ringing bell.new)) }
 {
     let question = question_of(room.alloc, wish)?;
     pass.reserve(1)?;
