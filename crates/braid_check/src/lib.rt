@@ -8,8 +8,8 @@
 //!
 //! Lines name identifiers as Strings of a header list (RFC 8941), and the digest is SHA-256 (FIPS 180-4).
 //!
-//! Not promised: how long a run takes, and that a read of the source comes back. An update costs about one pass over the
-//! elements that the resource has (`braid_tree::PlainDocument`), so a long stream costs the square of its length.
+//! Not promised: how long a run takes, and that a read of the source comes back. An update on all that is there costs a look
+//! at the blocks of the resource's runs (`braid_spans`), and one that leaves versions out a pass over the runs.
 #![tactic(auto)]
 
 mod check;

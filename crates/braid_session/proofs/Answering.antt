@@ -1,13 +1,10 @@
 -- What a book tells to a wish, and what it gained by it.
-use Rattle.std.proofs.Common.{◌≡◌, ◌≢◌, ℕ, List, [], ◌∷◌, ◌++◌, Option, Some, None, Result, Ok, Err, IfOk, OnErr, inl, inr, ◌⊎◌, append-nil, refl, ap, sym, subst, ◌∙◌}
+use Rattle.std.proofs.Common.{◌≡◌, ℕ, List, [], Some, inl, inr, ◌⊎◌, append-nil, refl, sym, subst, ◌∙◌}
 use Rattle.braid_change.specs.Updates.{UpdateView}
 use Rattle.braid_store.specs.declared.entry.Entry.{Entry}
 use Rattle.braid_store.specs.declared.put.Put.{Put}
 use Rattle.braid_store.specs.declared.put.Put.TheVariants as puts
-use Rattle.braid_store.specs.declared.got.Got.{Got}
-use Rattle.braid_store.specs.declared.got.GetFault.{GetFault}
 use Rattle.braid_store.specs.Answers.{IsPut}
-use Rattle.braid_store.specs.Reads.{IsRead, IsGetFault}
 use Rattle.braid_http.specs.declared.reply.Reply.{Reply}
 use Rattle.braid_http.specs.declared.reply.Reply.TheVariants.{Text, Stored}
 use Rattle.braid_session.specs.declared.wish.Wish.{Wish}
@@ -16,7 +13,7 @@ use Rattle.braid_session.specs.declared.answer.Question.{Question}
 use Rattle.braid_session.specs.declared.answer.Question.TheVariants.{Read, Store}
 use Rattle.braid_session.specs.declared.answer.Told.{Told}
 use Rattle.braid_session.specs.declared.answer.Told.TheVariants.{Found, NotFound, Answered}
-use Rattle.braid_session.specs.Answers.{Answers, found, not_found, answered, fault_reply, put_reply, put_entries, entry_of, MayAdd}
+use Rattle.braid_session.specs.Answers.{Answers, found, not_found, answered, put_reply, put_entries, entry_of, MayAdd}
 use Rattle.braid_session.specs.Steps.{IsAnswered, IsLacking}
 use Rattle.braid_session.specs.Telling.{AsksFor, Tells, told_reply}
 

@@ -1,26 +1,20 @@
 -- How a session that has come so far ends: it stands, it steps, and it ends.
-use Rattle.std.proofs.Common.{◌≡◌, ◌≢◌, ℕ, ◌+◌, ◌<◌, ◌≤◌, Bool, true, false, true≢false, ◌||◌, append_assoc, List, [], ◌∷◌, ◌++◌, ◌⊎◌, inl, inr, refl, ap, sym, ◌∙◌, length, arith, append-nil, Option, None, Some}
+use Rattle.std.proofs.Common.{◌≡◌, ℕ, ◌+◌, ◌<◌, ◌≤◌, Bool, true, false, true≢false, ◌||◌, List, [], ◌∷◌, ◌++◌, ◌⊎◌, inl, inr, refl, ap, sym, ◌∙◌, length, arith, append-nil, None}
 use Rattle.std.specs.Prelude.{nat_le}
 use Rattle.std.proofs.Math.Seq.{take-append_seam}
-use Rattle.std.specs.Io.KnownBytes.{append_known, prepend_known, IsAtEnd}
-use Rattle.braid_io.specs.Outside.{Intake, Outflow, Moves, Rose, WritesAll, WritesPart}
-use Rattle.braid_io.proofs.Known.{append_known-append}
-use Rattle.braid_io.specs.Bells.{Ringing}
-use Rattle.braid_hall.specs.Passes.{PassView}
-use Rattle.braid_http.proofs.Waiting.{moves_none, moves_both}
-use Rattle.braid_http.specs.Requests.{asked, refused, IsOpen}
-use Rattle.braid_http.specs.Asks.{Took, TookAndFailed, Answers as Asking}
-use Rattle.braid_http.specs.Cuts.{is_over, Stands, refusal, part}
+use Rattle.std.specs.Io.KnownBytes.{append_known, prepend_known}
+use Rattle.braid_io.specs.Outside.{Moves, WritesAll}
+use Rattle.braid_http.proofs.Waiting.{moves_both}
+use Rattle.braid_http.specs.Cuts.{is_over}
 use Rattle.braid_http.specs.Replies.{reply_text}
-use Rattle.braid_store.specs.declared.entry.Entry.{Entry}
 use Rattle.braid_session.specs.declared.serving.Serving.{Serving}
 use Rattle.braid_session.specs.declared.session.SessionEnd.{SessionEnd}
 use Rattle.braid_session.specs.declared.session.SessionEnd.TheVariants.{Closed, Stopped, Spent, Refused, Torn, ReadFault, WriteFault, Worn, Memory}
 use Rattle.braid_session.specs.declared.session.SessionNote.{SessionNote}
 use Rattle.braid_session.specs.declared.serve.Next.TheVariants.{Answered as IsAnswered, Ended}
-use Rattle.braid_session.specs.Sessions.{Placed, placed_at, goes_on, Answered, refusal_reply}
-use Rattle.braid_session.specs.Ends.{Passed, Rung, Done, Ends, Serves, FaultsOnlyAt, GainsThese, IsNext, IsUnanswered, BreaksOff}
-use Rattle.braid_session.specs.Steps.{State, Replied, Idled, Does}
+use Rattle.braid_session.specs.Sessions.{Placed, placed_at, refusal_reply}
+use Rattle.braid_session.specs.Ends.{Passed, Rung, Done, Ends, Serves, FaultsOnlyAt, GainsThese}
+use Rattle.braid_session.specs.Steps.{State, Idled, Does}
 use Rattle.braid_session.proofs.Passing.{passed_none, passed_both, rung_both}
 use Rattle.braid_session.proofs.Turns.{length_placed}
 use Rattle.braid_session.proofs.Goings.{Going, going_none, going_more, answered_then, over_of, over_false, over_true, writes_both, writes_none}

@@ -1,5 +1,5 @@
 -- Answers that follow answers.
-use Rattle.std.proofs.Common.{◌≡◌, ℕ, Bool, List, [], ◌∷◌, ◌++◌, refl, ap, sym, ◌∙◌, append_assoc}
+use Rattle.std.proofs.Common.{◌≡◌, ℕ, Bool, List, ◌++◌, append_assoc}
 use Rattle.braid_store.specs.declared.entry.Entry.{Entry}
 use Rattle.braid_http.specs.declared.request.Request.{Request}
 use Rattle.braid_http.specs.Replies.{reply_text}

@@ -1,30 +1,27 @@
 -- Where a session was broken off, what was written is a front of its text.
-use Rattle.std.proofs.Common.{◌≡◌, ◌≢◌, ℕ, ◌+◌, ◌<◌, ◌⊎◌, inl, inr, Bool, true, false, ◌||◌, List, [], ◌∷◌, ◌++◌, refl, ap, sym, ◌∙◌, subst, length, take, append-nil, append_assoc, arith}
+use Rattle.std.proofs.Common.{◌≡◌, ℕ, ◌+◌, ◌<◌, ◌⊎◌, inl, inr, Bool, true, false, ◌||◌, List, [], ◌∷◌, ◌++◌, refl, ap, sym, ◌∙◌, subst, take, append-nil, append_assoc, arith}
 use Rattle.std.specs.Prelude.{nat_le}
 use Rattle.std.specs.Io.KnownBytes.{append_known}
 use Rattle.std.proofs.lemmas.Grind.{common_steps}
 use Rattle.braid_io.proofs.Known.{append_known-append}
-use Rattle.braid_io.specs.Outside.{Intake, Outflow, WritesAll, WritesPart}
+use Rattle.braid_io.specs.Outside.{Outflow}
 use Rattle.braid_store.specs.declared.entry.Entry.{Entry}
 use Rattle.braid_store.specs.Books.{IsLegalBook}
 use Rattle.braid_http.specs.declared.request.Request.{Request}
-use Rattle.braid_http.specs.declared.reply.Reply.{Reply}
 use Rattle.braid_http.specs.declared.refusal.Refusal.{Refusal}
 use Rattle.braid_http.specs.Replies.{reply_text}
 use Rattle.braid_http.specs.Requests.{asked, IsDecided}
-use Rattle.braid_http.specs.Cuts.{Cuts, is_over, Tail, refusal, Stands, TailIs}
+use Rattle.braid_http.specs.Cuts.{Cuts, is_over, refusal, Stands, TailIs}
 use Rattle.braid_session.specs.declared.serving.Serving.{Serving}
-use Rattle.braid_session.specs.declared.denial.Denial.{Denial}
 use Rattle.braid_session.specs.declared.wish.Wish.{Wish}
 use Rattle.braid_session.specs.declared.wish.Wish.TheVariants.{Watch}
 use Rattle.braid_session.specs.declared.session.SessionEnd.{SessionEnd}
 use Rattle.braid_session.specs.declared.session.SessionEnd.TheVariants.{Closed, Stopped, Spent, Refused, Torn, ReadFault, WriteFault, Worn, Memory}
-use Rattle.braid_session.specs.declared.session.SessionNote.{SessionNote}
 use Rattle.braid_session.specs.Wishes.{Means, denied, wanted}
 use Rattle.braid_session.specs.Answers.{Answers, denial_reply}
-use Rattle.braid_session.specs.Sessions.{Placed, Course, goes_on, watched, Says, none, direct, turn, watches, Answered, WholeText, SessionText, whole, unmarked, watching, tail_text, refusal_reply}
-use Rattle.braid_session.specs.Ends.{Done, BreaksOff, Ends, Fits}
-use Rattle.braid_session.specs.Laws.{GoAlike, WroteFront}
+use Rattle.braid_session.specs.Sessions.{Placed, Course, goes_on, watched, Says, none, direct, turn, watches, WholeText, SessionText, whole, unmarked, watching, tail_text, refusal_reply}
+use Rattle.braid_session.specs.Ends.{BreaksOff, Ends}
+use Rattle.braid_session.specs.Laws.{WroteFront}
 use Rattle.braid_session.proofs.Following.{says_both}
 use Rattle.braid_session.proofs.OneAnswers.{denied_or_wanted, one_denial, one_wish, holdable, legal_take, one_reply}
 use Rattle.braid_session.proofs.OneText.{watched_alone, head, rest_of, not_none, first_mark, more_marks, not_watched, Parts, GoesOn, compared, none_behind, whole_parts, unmarked_parts, watched_parts, one_text}

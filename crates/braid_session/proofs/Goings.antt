@@ -1,11 +1,10 @@
 -- How far a session has come, and how it goes on.
-use Rattle.std.proofs.Common.{◌≡◌, ◌≢◌, ℕ, ◌+◌, ◌<◌, ◌≤◌, Bool, true, false, true≢false, ◌||◌, append_assoc, List, [], ◌∷◌, ◌++◌, ◌⊎◌, inl, inr, refl, ap, sym, ◌∙◌, length, arith, length-append, append-nil, Option, None, Some}
+use Rattle.std.proofs.Common.{◌≡◌, ℕ, ◌+◌, ◌<◌, ◌≤◌, Bool, true, false, true≢false, ◌||◌, append_assoc, List, [], ◌∷◌, ◌++◌, refl, ap, sym, ◌∙◌, length, arith, length-append, append-nil, Option, None, Some}
 use Rattle.std.specs.Prelude.{nat_le}
 use Rattle.std.proofs.lemmas.Grind.{common_steps}
-use Rattle.std.specs.Io.KnownBytes.{append_known, prepend_known}
+use Rattle.std.specs.Io.KnownBytes.{append_known}
 use Rattle.braid_io.proofs.Known.{append_known-append}
-use Rattle.braid_io.specs.Outside.{Intake, Outflow, Moves, WritesAll, WritesPart}
-use Rattle.braid_io.specs.Bells.{Ringing}
+use Rattle.braid_io.specs.Outside.{Outflow, Moves, WritesAll}
 use Rattle.braid_hall.specs.Passes.{PassView}
 use Rattle.braid_http.proofs.Waiting.{moves_none, moves_both}
 use Rattle.braid_http.specs.declared.request.Request.{Request}

@@ -1,5 +1,5 @@
 -- Session text on a history that grows.
-use Rattle.std.proofs.Common.{◌≡◌, ℕ, ◌≤◌, ◌<◌, Bool, List, [], ◌∷◌, ◌++◌, ◌⊎◌, inl, inr, refl, ap, sym, ◌∙◌, subst, length, take, drop, Option, Some, arith, length-append}
+use Rattle.std.proofs.Common.{◌≡◌, ℕ, ◌≤◌, List, [], ◌∷◌, ◌++◌, inl, inr, refl, ap, sym, ◌∙◌, subst, length, take, drop, Some, arith, length-append}
 use Rattle.std.specs.List.{AllByRecursion, slice_get}
 use Rattle.std.proofs.lemmas.List.{take-append-le, get_or_append_left}
 use Rattle.std.proofs.lemmas.Option.{slice_get_within, slice_get-get_or, get_or_from_slice_get}
@@ -16,7 +16,7 @@ use Rattle.braid_session.specs.declared.session.SessionEnd.{SessionEnd}
 use Rattle.braid_session.specs.declared.session.SessionEnd.TheVariants.{Closed, Stopped, Spent, Refused, Torn, ReadFault, WriteFault, Worn, Memory}
 use Rattle.braid_session.specs.Answers.{Answers, MayAdd}
 use Rattle.braid_session.specs.Sessions.{Placed, Course, goes_on, watched, Says, none, direct, turn, watches, chunks, chunks_or_beat, further, watch_text, last_chunk, subscription_head, Answered, SessionText, whole, unmarked, watching}
-use Rattle.braid_session.specs.Ends.{ArePlaced, Done, GainsThese, Ends, Fits}
+use Rattle.braid_session.specs.Ends.{Done, GainsThese, Ends}
 use Rattle.braid_session.specs.Laws.{StaysAsItGrows, TextStays, PlacesStay, FitsLonger}
 
 -- two books have the same fronts up to each of the marks

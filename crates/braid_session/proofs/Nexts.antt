@@ -1,5 +1,5 @@
 -- What one request led to, from what its calls gave.
-use Rattle.std.proofs.Common.{◌≡◌, ℕ, ◌≤◌, ◌⊎◌, inl, inr, Bool, false, List, Option, None, refl, ap, sym, ◌∙◌, subst}
+use Rattle.std.proofs.Common.{◌≡◌, ℕ, inl, inr, false, List, Option, None, sym, ◌∙◌, subst}
 use Rattle.braid_io.specs.Bells.{Ringing}
 use Rattle.braid_io.specs.Outside.{Intake, Outflow, WritesAll, WritesPart}
 use Rattle.braid_hall.specs.Passes.{PassView}
@@ -7,17 +7,15 @@ use Rattle.braid_store.specs.declared.entry.Entry.{Entry}
 use Rattle.braid_http.specs.declared.request.Request.{Request}
 use Rattle.braid_http.specs.declared.refusal.Refusal.{Refusal}
 use Rattle.braid_http.specs.declared.stop.Stop.{Stop}
-use Rattle.braid_http.specs.Replies.{reply_text, refusal_status}
+use Rattle.braid_http.specs.Replies.{reply_text}
 use Rattle.braid_http.specs.Requests.{asked, refused}
 use Rattle.braid_http.specs.Asks.{WireView, Answers as Asking}
 use Rattle.braid_session.specs.declared.serving.Serving.{Serving}
-use Rattle.braid_session.specs.declared.turn.NoReply.TheVariants as no
-use Rattle.braid_session.specs.declared.session.SessionEnd.{SessionEnd}
 use Rattle.braid_session.specs.declared.session.SessionEnd.TheVariants.{Closed, Stopped, Spent, Refused, Torn, ReadFault, WriteFault, Worn, Memory}
 use Rattle.braid_session.specs.declared.serve.Next.{Next}
 use Rattle.braid_session.specs.declared.serve.Next.TheVariants.{Answered, Ended}
 use Rattle.braid_session.specs.Sessions.{refusal_reply}
-use Rattle.braid_session.specs.Steps.{State, NotReplied, Idled, AnswersTo, AnswersRefusal, IfAnswered, Does}
+use Rattle.braid_session.specs.Steps.{State, Idled, AnswersTo, AnswersRefusal, IfAnswered, Does}
 
 -- a state, of its parts
 abbrev pub state_of : WireView → List ℕ → PassView Entry → Intake → Outflow → Ringing → State

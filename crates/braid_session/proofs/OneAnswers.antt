@@ -1,6 +1,6 @@
 -- What a request means is one thing, and so is the reply to a wish on a legal book.
-use Rattle.std.proofs.Common.{◌≡◌, ◌≢◌, ℕ, ◌⊎◌, Bool, true, false, true≢false, List, [], ◌∷◌, ◌++◌, refl, ap, sym, ◌∙◌, subst, take, drop, Option, None, Some, Result, Ok, Err}
-use Rattle.std.specs.Prelude.{Contains, MatchOption, if◌then◌else◌}
+use Rattle.std.proofs.Common.{◌≡◌, ◌≢◌, ℕ, Bool, true, false, true≢false, List, ◌++◌, refl, ap, sym, ◌∙◌, subst, take, drop, Option, None, Some, Result, Ok, Err}
+use Rattle.std.specs.Prelude.{MatchOption, if◌then◌else◌}
 use Rattle.std.specs.Ordering.{ordering_reverse}
 use Rattle.std.specs.declared.cmp.Ordering.{Ordering}
 use Rattle.std.specs.declared.cmp.Ordering.TheVariants.{Less, Equal, Greater}
@@ -13,11 +13,10 @@ use Rattle.braid_change.specs.Updates.{UpdateView, IsUpdate}
 use Rattle.braid_fields.specs.Table.{members_of}
 use Rattle.braid_grammar.specs.declared.put.PutFault.{PutFault}
 use Rattle.braid_grammar.specs.declared.put.PutFault.TheVariants as faults
-use Rattle.braid_grammar.specs.Puts.{IsPutReading}
 use Rattle.braid_grammar.proofs.Puts.{puts_one, put_is_update}
 use Rattle.braid_graph.specs.Entries.{GraphEntry, HoldsAll}
 use Rattle.braid_graph.specs.Ancestries.{IsLeastUnheld}
-use Rattle.braid_graph.specs.Frontiers.{IsFrontierOf, frontier_of}
+use Rattle.braid_graph.specs.Frontiers.{IsFrontierOf}
 use Rattle.braid_graph.proofs.Frontiers.{one_frontier}
 use Rattle.braid_text.specs.Histories.{graph_of, text_at, IsLegal}
 use Rattle.braid_store.specs.declared.entry.Entry.{Entry}
@@ -27,19 +26,18 @@ use Rattle.braid_store.specs.declared.got.Got.{Got}
 use Rattle.braid_store.specs.declared.got.GetFault.{GetFault}
 use Rattle.braid_store.specs.declared.got.GetFault.TheVariants as gets
 use Rattle.braid_store.specs.Books.{of_path, IsLegalBook}
-use Rattle.braid_store.specs.Answers.{IsPut, put_answer}
-use Rattle.braid_store.specs.Reads.{IsRead, ReadsHistory, IsGetFault, IsUnheldOf}
+use Rattle.braid_store.specs.Reads.{IsRead, IsGetFault, IsUnheldOf}
 use Rattle.braid_store.proofs.Paths.{of_path_append}
 use Rattle.braid_store.proofs.Later.{legal_front}
 use Rattle.braid_store.proofs.Judged.{one}
 use Rattle.braid_http.specs.declared.request.Request.{Request}
 use Rattle.braid_http.specs.declared.reply.Reply.{Reply}
-use Rattle.braid_http.specs.declared.reply.Reply.TheVariants.{Text, Stored, Error}
+use Rattle.braid_http.specs.declared.reply.Reply.TheVariants.{Text}
 use Rattle.braid_session.specs.declared.serving.Serving.{Serving}
 use Rattle.braid_session.specs.declared.denial.Denial.{Denial}
 use Rattle.braid_session.specs.declared.wish.Wish.{Wish}
 use Rattle.braid_session.specs.declared.wish.Wish.TheVariants.{Read, Watch, Store}
-use Rattle.braid_session.specs.Orders.{is_get, is_subscription, list_in_use, denial_of}
+use Rattle.braid_session.specs.Orders.{is_subscription, list_in_use, denial_of}
 use Rattle.braid_session.specs.Wishes.{Means, Meaning, denied, wanted, by_head, get, put, no_put, parts_of, denial_of_put, version_asked}
 use Rattle.braid_session.specs.Answers.{Answers, found, not_found, answered, not_held, entry_of, fault_reply, put_reply, unheld_reply}
 

@@ -1,5 +1,5 @@
 -- A legal history, the bytes and the marks determine the text of a session.
-use Rattle.std.proofs.Common.{◌≡◌, ◌≢◌, ℕ, ◌+◌, ◌<◌, ◌⊎◌, inl, inr, Bool, true, false, true≢false, ◌||◌, List, [], ◌∷◌, ◌++◌, refl, ap, sym, ◌∙◌, subst, length, take, Option, None, Some, arith, length-append, append-nil}
+use Rattle.std.proofs.Common.{◌≡◌, ℕ, ◌+◌, ◌<◌, ◌⊎◌, inl, inr, Bool, true, false, true≢false, ◌||◌, List, [], ◌∷◌, ◌++◌, refl, ap, sym, ◌∙◌, subst, length, take, arith, length-append, append-nil}
 use Rattle.std.specs.Prelude.{nat_le}
 use Rattle.std.proofs.lemmas.List.{append_cancel_left}
 use Rattle.std.proofs.lemmas.Grind.{common_steps}
@@ -8,21 +8,19 @@ use Rattle.braid_text.specs.Histories.{graph_of}
 use Rattle.braid_store.specs.declared.entry.Entry.{Entry}
 use Rattle.braid_store.specs.Books.{of_path, IsLegalBook}
 use Rattle.braid_http.specs.declared.request.Request.{Request}
-use Rattle.braid_http.specs.declared.refusal.Refusal.{Refusal}
 use Rattle.braid_http.specs.declared.reply.Reply.{Reply}
 use Rattle.braid_http.specs.Replies.{reply_text}
 use Rattle.braid_http.specs.Requests.{Answer, asked, refused, Decides, IsDecided}
-use Rattle.braid_http.specs.Cuts.{Cuts, is_over, Tail, nothing, part, refusal, unseen, Stands, TailIs, Requests}
+use Rattle.braid_http.specs.Cuts.{Cuts, is_over, Tail, nothing, part, refusal, unseen, Stands, TailIs}
 use Rattle.braid_http.proofs.CutLaws.{one_cut}
 use Rattle.braid_http.proofs.Decisions.{one_answer}
 use Rattle.braid_http.proofs.Sizes.{decides_some}
 use Rattle.braid_session.specs.declared.serving.Serving.{Serving}
-use Rattle.braid_session.specs.declared.denial.Denial.{Denial}
 use Rattle.braid_session.specs.declared.wish.Wish.{Wish}
-use Rattle.braid_session.specs.declared.wish.Wish.TheVariants.{Read, Watch, Store}
-use Rattle.braid_session.specs.Wishes.{Means, denied, wanted, get, put}
+use Rattle.braid_session.specs.declared.wish.Wish.TheVariants.{Watch}
+use Rattle.braid_session.specs.Wishes.{Means, denied, wanted}
 use Rattle.braid_session.specs.Answers.{Answers, denial_reply}
-use Rattle.braid_session.specs.Sessions.{Placed, placed_at, Course, goes_on, watched, Says, none, direct, turn, watches, watch_text, last_chunk, tail_text, Answered, NeedsTurn, WholeText, UnmarkedText, WatchedText, SessionText, whole, unmarked, watching}
+use Rattle.braid_session.specs.Sessions.{Placed, Course, goes_on, watched, Says, none, direct, turn, watches, watch_text, last_chunk, tail_text, Answered, NeedsTurn, WholeText, UnmarkedText, WatchedText, SessionText, whole, unmarked, watching}
 use Rattle.braid_session.specs.Laws.{GoAlike, OneText, OneTextUnwatched}
 use Rattle.braid_session.proofs.OneAnswers.{denied_or_wanted, one_denial, one_wish, holdable, legal_take, one_reply, no_reply}
 use Rattle.braid_session.proofs.Replying.{unwatched}

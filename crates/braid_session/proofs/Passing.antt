@@ -1,13 +1,13 @@
 -- A pass that goes through one request after the other.
-use Rattle.std.proofs.Common.{◌≡◌, ℕ, ◌+◌, ◌≤◌, ◌<◌, zero, suc, Bool, false, List, [], ◌∷◌, ◌++◌, refl, ap, sym, ◌∙◌, subst, length, map, Some, arith, append-nil, append_assoc, length-append}
-use Rattle.std.specs.List.{AllByRecursion, slice_get}
+use Rattle.std.proofs.Common.{◌≡◌, ℕ, ◌+◌, ◌≤◌, zero, suc, false, List, [], ◌∷◌, ◌++◌, refl, ap, sym, ◌∙◌, subst, length, arith, append-nil, append_assoc, length-append}
+use Rattle.std.specs.List.{AllByRecursion}
 use Rattle.std.proofs.lemmas.List.{map-append, length-map}
 use Rattle.braid_io.specs.Bells.{Ringing}
 use Rattle.braid_io.specs.Outside.{next_count}
 use Rattle.braid_hall.specs.Passes.{PassView}
 use Rattle.braid_store.specs.declared.entry.Entry.{Entry}
 use Rattle.braid_session.specs.Sessions.{Placed, entries_of}
-use Rattle.braid_session.specs.Ends.{ArePlaced, AreLengths, none, stayed, grew, AreFound, none_found, passed_by, added_to, IsAlone, Passed, risen, Rung}
+use Rattle.braid_session.specs.Ends.{ArePlaced, AreLengths, none, stayed, grew, AreFound, none_found, passed_by, added_to, Passed, risen, Rung}
 use Rattle.braid_session.proofs.Growing.{places_stay}
 
 pub passed_none : (p : PassView Entry) → p.held ≡ false → Passed p p [] []

@@ -1,13 +1,12 @@
 -- What is replied to one request, and why there is no reply.
-use Rattle.std.proofs.Common.{◌≡◌, ◌≢◌, ℕ, ◌≤◌, ◌⊎◌, inl, inr, Bool, true, false, true≢false, List, [], ◌∷◌, ◌++◌, refl, ap, sym, ◌∙◌, subst, length, take, Option, None, Some, codes, arith, append-nil}
-use Rattle.std.specs.Prelude.{◌&&◌, ◌||◌, not, nat_le, ◌==◌, if◌then◌else◌}
+use Rattle.std.proofs.Common.{◌≡◌, ℕ, ◌≤◌, inl, inr, Bool, true, false, List, [], ◌∷◌, refl, ap, sym, ◌∙◌, subst, length, Option, None, Some, codes, arith, append-nil}
+use Rattle.std.specs.Prelude.{◌||◌, not, if◌then◌else◌}
 use Rattle.std.proofs.Math.Seq.{take-append_seam}
 use Rattle.std.proofs.lemmas.Grind.{common_steps}
-use Rattle.braid_ids.specs.Frontiers.{rising_ids}
 use Rattle.braid_io.specs.Bells.{Ringing}
 use Rattle.braid_fields.specs.declared.reason.Reason.{Reason}
 use Rattle.braid_fields.specs.declared.reason.Reason.TheVariants as reasons
-use Rattle.braid_fields.specs.Table.{members_of, is_encoded, is_repeated, is_other_merge_type}
+use Rattle.braid_fields.specs.Table.{is_encoded, is_repeated, is_other_merge_type}
 use Rattle.braid_hall.specs.Passes.{PassView}
 use Rattle.braid_store.specs.declared.entry.Entry.{Entry}
 use Rattle.braid_store.specs.declared.put.Put.{Put}
@@ -16,10 +15,9 @@ use Rattle.braid_store.specs.declared.got.GetFault.{GetFault}
 use Rattle.braid_store.specs.declared.got.GetFault.TheVariants as faults
 use Rattle.braid_http.specs.declared.request.Request.{Request}
 use Rattle.braid_http.specs.declared.reply.Reply.{Reply}
-use Rattle.braid_http.specs.declared.reply.Reply.TheVariants.{Error}
 use Rattle.braid_http.specs.declared.refusal.Refusal.{Refusal}
 use Rattle.braid_http.specs.declared.refusal.Refusal.TheVariants as refusals
-use Rattle.braid_http.specs.Replies.{reply_text, refusal_status, HasPhrase, IsWritable}
+use Rattle.braid_http.specs.Replies.{reply_text, HasPhrase, IsWritable}
 use Rattle.braid_session.specs.declared.serving.Serving.{Serving}
 use Rattle.braid_session.specs.declared.denial.Denial.{Denial}
 use Rattle.braid_session.specs.declared.denial.Denial.TheVariants as denials
@@ -28,12 +26,11 @@ use Rattle.braid_session.specs.declared.wish.Wish.TheVariants.{Read, Watch, Stor
 use Rattle.braid_session.specs.declared.turn.NoReply.{NoReply}
 use Rattle.braid_session.specs.declared.turn.NoReply.TheVariants as no
 use Rattle.braid_session.specs.Denials.{denial_status}
-use Rattle.braid_session.specs.Orders.{Row, first_denial, values_of, is_served, rows_of_list, is_get, names_resource, is_other_form, is_subscription, has_field, denial_of, rows_of, rows_of_get, list_in_use}
-use Rattle.braid_session.specs.Wishes.{Means, denied, wanted, by_head, get, put, no_put, wish_of_get, version_asked}
+use Rattle.braid_session.specs.Orders.{Row, first_denial, values_of, is_served, rows_of_list, is_get, names_resource, is_other_form, is_subscription, has_field, denial_of, rows_of_get, list_in_use}
+use Rattle.braid_session.specs.Wishes.{Means, denied, wanted, get, put}
 use Rattle.braid_session.specs.Answers.{Answers, found, not_found, answered, not_held, denial_reply, fault_reply, put_reply}
-use Rattle.braid_session.specs.Sessions.{Placed, placed_at, goes_on, Says, none, direct, turn, refusal_reply}
-use Rattle.braid_session.specs.Ends.{Rung}
-use Rattle.braid_session.specs.Steps.{IsAtOnce, TookTurn, TookNone, Idled, RepliedBy, NotReplied}
+use Rattle.braid_session.specs.Sessions.{placed_at, goes_on, none, direct, turn, refusal_reply}
+use Rattle.braid_session.specs.Steps.{IsAtOnce, TookTurn, TookNone, RepliedBy, NotReplied}
 use Rattle.braid_session.proofs.Turns.{length_placed, idled_none}
 
 -- the reply to a denial is plain

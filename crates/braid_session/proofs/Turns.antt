@@ -1,10 +1,10 @@
 -- What one turn does to the pass that takes it.
-use Rattle.std.proofs.Common.{◌≡◌, ℕ, ◌+◌, ◌-◌, ◌≤◌, ◌<◌, ◌⊎◌, inl, inr, Bool, false, List, [], ◌∷◌, ◌++◌, refl, ap, sym, ◌∙◌, subst, length, map, take, drop, slice_get, Some, Result, Err, true, arith, append-nil, append_assoc, length-append}
+use Rattle.std.proofs.Common.{◌≡◌, ℕ, ◌+◌, ◌≤◌, ◌⊎◌, inl, inr, Bool, false, List, [], ◌∷◌, ◌++◌, refl, ap, sym, ◌∙◌, subst, length, slice_get, Some, Result, Err, true, arith, append-nil, append_assoc, length-append}
 use Rattle.std.specs.Prelude.{IfErr, if◌then◌else◌}
 use Rattle.std.proofs.lemmas.List.{length-map}
 use Rattle.std.proofs.lemmas.Option.{slice_get-get_or}
 use Rattle.std.proofs.Math.Seq.{drop-append_seam, get_or-append_seam}
-use Rattle.braid_io.specs.Bells.{Ringing, Rings}
+use Rattle.braid_io.specs.Bells.{Ringing}
 use Rattle.braid_hall.specs.Histories.{IsPrefix}
 use Rattle.braid_hall.specs.Passes.{PassView, AddsOne, IsTurn, IsWorn, entered, left_with, worn}
 use Rattle.braid_store.specs.declared.entry.Entry.{Entry}
@@ -15,8 +15,8 @@ use Rattle.braid_session.specs.declared.wish.Wish.{Wish}
 use Rattle.braid_session.specs.declared.turn.NoReply.{NoReply}
 use Rattle.braid_session.specs.declared.turn.NoReply.TheVariants as no
 use Rattle.braid_session.specs.Answers.{Answers, found, not_found, answered, not_held, entry_of, put_entries, MayAdd}
-use Rattle.braid_session.specs.Sessions.{Placed, placed_at, entries_of}
-use Rattle.braid_session.specs.Ends.{ArePlaced, AreLengths, none, stayed, grew, AreFound, none_found, passed_by, added_to, IsAlone, Passed, Rung}
+use Rattle.braid_session.specs.Sessions.{placed_at, entries_of}
+use Rattle.braid_session.specs.Ends.{ArePlaced, AreLengths, none, stayed, grew, AreFound, none_found, passed_by, added_to, Passed, Rung}
 use Rattle.braid_session.specs.Steps.{IsAnswered, IsLacking, RungWhereGrew, Turned, TookTurn, TurnedInVain, Idled}
 
 -- none, or one entry with this number

@@ -1,7 +1,6 @@
 -- What each end says of the whole text.
-use Rattle.std.proofs.Common.{◌≡◌, ◌≢◌, ℕ, ◌≤◌, ◌<◌, ◌⊎◌, inl, inr, Bool, true, false, List, [], ◌∷◌, ◌++◌, refl, ap, sym, ◌∙◌, append-nil, length, arith}
-use Rattle.std.specs.Io.KnownBytes.{IsAtEnd}
-use Rattle.braid_io.specs.Outside.{Intake, Outflow, Rose, WritesAll, WritesPart}
+use Rattle.std.proofs.Common.{◌≡◌, ◌≢◌, ℕ, ◌⊎◌, inl, inr, true, false, List, [], ◌∷◌, ◌++◌, refl, sym, ◌∙◌, append-nil, arith}
+use Rattle.braid_io.specs.Outside.{Outflow, Rose, WritesAll}
 use Rattle.braid_store.specs.declared.entry.Entry.{Entry}
 use Rattle.braid_http.specs.declared.request.Request.{Request}
 use Rattle.braid_http.specs.Requests.{IsOpen}
@@ -10,9 +9,8 @@ use Rattle.braid_http.proofs.CutLaws.{one_cut}
 use Rattle.braid_session.specs.declared.serving.Serving.{Serving}
 use Rattle.braid_session.specs.declared.session.SessionEnd.{SessionEnd}
 use Rattle.braid_session.specs.declared.session.SessionEnd.TheVariants.{Closed, Stopped, Spent, Refused, Torn, ReadFault, WriteFault, Worn, Memory}
-use Rattle.braid_session.specs.declared.session.SessionNote.{SessionNote}
-use Rattle.braid_session.specs.Sessions.{Placed, Course, goes_on, Answered, WholeText, UnmarkedText, tail_text}
-use Rattle.braid_session.specs.Ends.{Done, MayFollow, NoneFollows, BreaksOff, Ends, Fits}
+use Rattle.braid_session.specs.Sessions.{goes_on, Answered, WholeText, UnmarkedText, tail_text}
+use Rattle.braid_session.specs.Ends.{Done, BreaksOff, Ends}
 use Rattle.braid_session.specs.Laws.{WroteAll, Completes}
 
 -- a text that was written whole, at this end

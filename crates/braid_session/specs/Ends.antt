@@ -1,5 +1,5 @@
 -- What a session leaves, and how each of its ends comes about.
-use Rattle.std.specs.Prelude.{◌≡◌, ◌≢◌, ℕ, zero, suc, ◌+◌, ◌<◌, ◌≤◌, ◌⊎◌, Bool, true, false, List, [], ◌∷◌, ◌++◌, length, take, slice_get, Some}
+use Rattle.std.specs.Prelude.{◌≡◌, ◌≢◌, ℕ, zero, suc, ◌+◌, ◌<◌, ◌≤◌, ◌⊎◌, true, false, List, [], ◌∷◌, ◌++◌, length, take, slice_get, Some}
 use Rattle.std.specs.List.{AllByRecursion}
 use Rattle.std.specs.Io.KnownBytes.{append_known, prepend_known, IsAtEnd}
 use Rattle.braid_io.specs.Outside.{Intake, Outflow, Rose, WritesAll, WritesPart, next_count}
@@ -8,17 +8,14 @@ use Rattle.braid_hall.specs.Histories.{IsPrefix}
 use Rattle.braid_hall.specs.Passes.{PassView}
 use Rattle.braid_store.specs.declared.entry.Entry.{Entry}
 use Rattle.braid_http.specs.declared.request.Request.{Request}
-use Rattle.braid_http.specs.declared.reply.Reply.{Reply}
 use Rattle.braid_http.specs.declared.refusal.Refusal.{Refusal}
 use Rattle.braid_http.specs.Replies.{reply_text, refusal_status}
 use Rattle.braid_http.specs.Requests.{asked, IsDecided, IsOpen}
 use Rattle.braid_http.specs.Cuts.{is_over, part, refusal, Stands}
 use Rattle.braid_session.specs.declared.serving.Serving.{Serving}
-use Rattle.braid_session.specs.declared.wish.Wish.{Wish}
 use Rattle.braid_session.specs.declared.session.SessionEnd.{SessionEnd}
 use Rattle.braid_session.specs.declared.session.SessionEnd.TheVariants.{Closed, Stopped, Spent, Refused, Torn, ReadFault, WriteFault, Worn, Memory}
 use Rattle.braid_session.specs.declared.session.SessionNote.{SessionNote}
-use Rattle.braid_session.specs.Wishes.{Means, wanted}
 use Rattle.braid_session.specs.Answers.{MayAdd}
 use Rattle.braid_session.specs.Sessions.{Placed, placed_at, entries_of, goes_on, Says, Answered, NeedsTurn, refusal_reply}
 

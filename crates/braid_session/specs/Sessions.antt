@@ -1,7 +1,6 @@
 -- The text of a session: what it writes for the bytes that it read and the marks of its turns, on a history.
 use Rattle.std.specs.Fmt.{digits}
-use Rattle.std.specs.Prelude.{◌≡◌, ℕ, ◌≤◌, Bool, true, false, List, [], ◌∷◌, ◌++◌, length, take, drop, flat_map, codes, map}
-use Rattle.std.specs.List.{AllByRecursion}
+use Rattle.std.specs.Prelude.{◌≡◌, ℕ, Bool, true, false, List, [], ◌∷◌, ◌++◌, length, take, drop, flat_map, codes, map}
 use Rattle.braid_change.specs.Updates.{UpdateView}
 use Rattle.braid_change.specs.Spellings.{canonical}
 use Rattle.braid_graph.specs.Entries.{HoldsAll}

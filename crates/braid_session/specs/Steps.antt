@@ -1,5 +1,5 @@
 -- What one request does to the pass, the marks, the bell and the link, as the functions of a session see it.
-use Rattle.std.specs.Prelude.{◌≡◌, ◌≢◌, ℕ, ◌<◌, ◌≤◌, ◌⊎◌, Bool, true, false, List, [], ◌∷◌, ◌++◌, length, Option}
+use Rattle.std.specs.Prelude.{◌≡◌, ℕ, ◌<◌, ◌≤◌, ◌⊎◌, false, List, [], ◌∷◌, ◌++◌, length}
 use Rattle.braid_io.specs.Outside.{Intake, Outflow, WritesAll, WritesPart}
 use Rattle.braid_io.specs.Bells.{Ringing, Rings}
 use Rattle.braid_hall.specs.Passes.{PassView}
@@ -8,7 +8,6 @@ use Rattle.braid_http.specs.declared.request.Request.{Request}
 use Rattle.braid_http.specs.declared.reply.Reply.{Reply}
 use Rattle.braid_http.specs.declared.refusal.Refusal.{Refusal}
 use Rattle.braid_http.specs.declared.request.Asked.TheVariants.{End, Torn as TornAsked, ReadFault as ReadFailed}
-use Rattle.braid_http.specs.declared.stop.Stop.{Stop}
 use Rattle.braid_http.specs.Replies.{reply_text, refusal_status}
 use Rattle.braid_http.specs.Requests.{asked, refused}
 use Rattle.braid_http.specs.Asks.{WireView, Answers as Asking, Took, Asks}

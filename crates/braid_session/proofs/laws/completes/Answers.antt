@@ -1,4 +1,3 @@
-use Rattle.std.proofs.Common.{rules}
 use Rattle.braid_session.proofs.Wholes.{completes}
 use Rattle.braid_session.proofs.laws.completes.Goals as goal
 

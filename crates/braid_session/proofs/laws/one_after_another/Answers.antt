@@ -1,6 +1,4 @@
-use Rattle.std.proofs.Common.{rules}
 use Rattle.braid_session.proofs.Passing.{passed_both, rung_both}
-use Rattle.braid_session.proofs.Endings.{spent}
 use Rattle.braid_session.proofs.laws.one_after_another.Goals as goal
 
 pub returns-clause-passed : goal.returns-clause-passed

@@ -1,4 +1,3 @@
-use Rattle.std.proofs.Common.{rules}
 use Rattle.braid_session.proofs.OneText.{one_text, one_text_unwatched}
 use Rattle.braid_session.proofs.laws.one_text.Goals as goal
 

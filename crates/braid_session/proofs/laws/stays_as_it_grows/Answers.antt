@@ -1,4 +1,3 @@
-use Rattle.std.proofs.Common.{rules}
 use Rattle.braid_session.proofs.Growing.{stays, text_stays, places_stay, fits_longer}
 use Rattle.braid_session.proofs.laws.stays_as_it_grows.Goals as goal
 

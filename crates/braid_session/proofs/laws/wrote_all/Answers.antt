@@ -1,4 +1,3 @@
-use Rattle.std.proofs.Common.{rules}
 use Rattle.braid_session.proofs.Wholes.{wrote_all}
 use Rattle.braid_session.proofs.Fronts.{wrote_front}
 use Rattle.braid_session.proofs.laws.wrote_all.Goals as goal

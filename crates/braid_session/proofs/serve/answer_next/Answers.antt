@@ -1,4 +1,4 @@
-use Rattle.std.proofs.Common.{rules, inl}
+use Rattle.std.proofs.Common.{inl}
 use Rattle.braid_session.specs.Orders.{serving_now}
 use Rattle.braid_session.proofs.Turns.{idled_none}
 use Rattle.braid_session.proofs.Nexts.{does_request, does_refusal, live_behind, refusal_ends}

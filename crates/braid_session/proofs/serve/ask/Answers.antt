@@ -1,4 +1,3 @@
-use Rattle.std.proofs.Common.{rules}
 use Rattle.braid_session.proofs.serve.ask.Goals as goal
 
 pub returns : goal.returns

@@ -1,4 +1,3 @@
-use Rattle.std.proofs.Common.{rules}
 use Rattle.braid_session.proofs.Replying.{writable_refusal}
 use Rattle.braid_session.proofs.serve.refusal_bytes.Goals as goal
 

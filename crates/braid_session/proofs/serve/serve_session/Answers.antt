@@ -1,4 +1,4 @@
-use Rattle.std.proofs.Common.{rules, refl, ap, ◌∙◌}
+use Rattle.std.proofs.Common.{refl, ap, ◌∙◌}
 use Rattle.braid_http.specs.Asks.{WireView}
 use Rattle.braid_session.proofs.Endings.{stand, step, finish, closing, spent, last_close}
 use Rattle.braid_session.proofs.serve.serve_session.Goals as goal

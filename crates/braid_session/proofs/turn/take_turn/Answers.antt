@@ -1,4 +1,4 @@
-use Rattle.std.proofs.Common.{rules, ◌≡◌, ◌++◌, ◌∷◌, [], length, List, ℕ, true, is_ok, inl, inr, arith}
+use Rattle.std.proofs.Common.{length, is_ok, inl, inr, arith}
 use Rattle.std.proofs.lemmas.Result.{err_from_is_err_and}
 use Rattle.braid_session.proofs.Answering.{told_lacks, told_answers}
 use Rattle.braid_session.proofs.Turns.{adds_one, idled_none, idled_same, idled_room, idled_worn, took_turn, turned_in_vain, pushed, rung_of, no_memory}
