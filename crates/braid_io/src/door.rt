@@ -18,7 +18,7 @@ pub enum Came<K> {
 /// Where connections come in.
 pub trait Door: Drop + Send {
     /// The links that it gives.
-    type Link: Link;
+    type Link: Link + Send;
 
     /// The links put back, the connections left and the number of links that are up, where it tells them, and its
     /// counts of faults.
