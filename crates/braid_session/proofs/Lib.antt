@@ -12,3 +12,5 @@ pub mod OneAnswers
 pub mod OneText
 pub mod Fronts
 pub mod Nexts
+pub mod Lasting
+pub mod AtDoors

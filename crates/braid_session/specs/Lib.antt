@@ -6,5 +6,7 @@ pub mod Sessions
 pub mod Ends
 pub mod Judging
 pub mod Steps
+pub mod Doors
+pub mod DoorSteps
 pub mod Telling
 pub mod Laws

@@ -1,4 +1,4 @@
-//! One connection: each request is answered in order, on a book behind a hall.
+//! One connection, and those of a door one after another: each request is answered in order, on a book behind a hall.
 //!
 //! A request is judged by one table of rows in one order; the first row that passes answers it. Those that need the book
 //! take one turn each, and no other does. What is written is the session's text: a relation between the history that the
@@ -11,8 +11,10 @@
 
 mod answer;
 mod denial;
+mod door;
 mod head;
 pub mod laws;
+mod list_session_note;
 mod parts;
 mod replies;
 mod serve;
@@ -20,9 +22,17 @@ mod serving;
 mod session;
 mod turn;
 mod wish;
+mod worker;
 
+pub use door::serve_door;
+pub use list_session_note::ListSessionNote;
 pub use serve::serve_session;
 pub use session::{SessionEnd, SessionNote};
+pub use worker::{ListWorkerNote, WorkerEnd, WorkerNote};
 
+#[cfg(test)]
+mod denial_tests;
+#[cfg(test)]
+mod door_tests;
 #[cfg(test)]
 mod tests;
