@@ -142,8 +142,8 @@ module _ (s : Serving) (p q r : PassView Entry) (notes more : List SessionNote) 
   fit_more : (h : HasServed s notes p q a b bell rung) (x : Session) → ServesLink s x q r notes more b c rung again → AllByRecursion (FitsVisit s r.number r.seen r.look) (h.sessions ++ x ∷ [])
   fit_more h x l = all_both (FitsVisit s r.number r.seen r.look) h.sessions (x ∷ [])
       (all_two (FitsVisit s q.number q.seen q.look) (λ (y : Session). y.note.end ≡ ends.Worn → ⊥) (FitsVisit s r.number r.seen r.look) h.sessions
-        (λ y f n. subst (λ (k : ℕ). FitsVisit s k r.seen r.look y) (sym l.passed.number)
-          (fits_later s q.number q.seen r.seen q.look r.look y f l.passed.begins (λ e. absurd (n e)))) h.fit h.none_worn)
+      (λ y f n. subst (λ (k : ℕ). FitsVisit s k r.seen r.look y) (sym l.passed.number)
+      (fits_later s q.number q.seen r.seen q.look r.look y f l.passed.begins (λ e. absurd (n e)))) h.fit h.none_worn)
       (l.fits, tt)
 
   passed_more : (h : HasServed s notes p q a b bell rung) (x : Session) → ServesLink s x q r notes more b c rung again
@@ -199,7 +199,7 @@ module _ (s : Serving) (p q r : PassView Entry) (notes more : List SessionNote) 
   ended DoorEnd h (u, e, none) = ended_so DoorEnd h u (same_door h e) ((λ z. same_faults h e), (λ z. absurd (cc z))) (h.none_worn, none)
   ended DoorFault h (u, e, risen, rose) = ended_so DoorFault h u
       (subst (λ (z : Doorway). Visited (visits_of h.sessions) a z) (sym e)
-        (record { served = h.door.served; left = h.door.left; up = h.door.up; link_read_faults = h.door.link_read_faults; link_write_faults = h.door.link_write_faults }))
+      (record { served = h.door.served; left = h.door.left; up = h.door.up; link_read_faults = h.door.link_read_faults; link_write_faults = h.door.link_write_faults }))
       ((λ z. absurd (z refl)), (λ z. (subst (λ n. n ≤ c.faults) h.faults risen, subst (λ n. Rose n c.faults) h.faults rose))) h.none_worn
   ended Worn h (x, l, is) = record {
     sessions = h.sessions ++ x ∷ [];

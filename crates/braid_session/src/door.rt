@@ -68,8 +68,7 @@ fn serve_links<R: Wait, D: Door, L: Bell>(
             None => {}
         }
     }
-    // Not reached: the loop has no other end.
-    WorkerEnd::Memory
+    unreachable!()
 }
 
 /// Serves the connections of a door, one after another, on the book behind a hall. It goes on until the door ends or

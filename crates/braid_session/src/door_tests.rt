@@ -13,7 +13,9 @@ use std::sync::Wait;
 use std::test::Fail;
 
 const PUT: &[u8] = b"PUT /a HTTP/1.1\r\nVersion: \"x-1\"\r\nContent-Length: 5\r\n\r\nhello";
+
 const STORED: &[u8] = b"HTTP/1.1 200 OK\r\nVersion: \"x-1\"\r\nContent-Length: 0\r\n\r\n";
+
 const ABSENT: &[u8] = b"GET /b HTTP/1.1\r\n\r\n";
 
 /// A link that gives these bytes. The reads and writes of these numbers fail.
@@ -80,9 +82,20 @@ fn ends_so(left: &Left, ends: &[SessionEnd], end: WorkerEnd) -> bool {
 fn a_session_that_fails_leaves_the_worker_going(rt: HostRuntime) -> Result<(), Fail> {
     let alloc = rt.alloc();
     let left = work(&rt, alloc, 0, four_links(alloc)?, &[])?;
-    let ends = [SessionEnd::Closed, SessionEnd::ReadFault, SessionEnd::Torn, SessionEnd::Closed];
-    let first = left.door.served().first().is_some_and(|link| link.written() == STORED);
-    assert!(rt; ends_so(&left, &ends, WorkerEnd::DoorEnd) && first && (left.entries, left.rings) == (1, 1));
+    let ends = [
+        SessionEnd::Closed,
+        SessionEnd::ReadFault,
+        SessionEnd::Torn,
+        SessionEnd::Closed,
+    ];
+    let first = left
+        .door
+        .served()
+        .first()
+        .is_some_and(|link| link.written() == STORED);
+    assert!(rt;
+        ends_so(&left, &ends, WorkerEnd::DoorEnd) && first && (left.entries, left.rings) == (1, 1)
+    );
     Ok(())
 }
 
@@ -90,7 +103,9 @@ fn a_session_that_fails_leaves_the_worker_going(rt: HostRuntime) -> Result<(), F
 fn a_door_that_fails_ends_the_worker(rt: HostRuntime) -> Result<(), Fail> {
     let alloc = rt.alloc();
     let left = work(&rt, alloc, 0, four_links(alloc)?, &[1])?;
-    assert!(rt; ends_so(&left, &[SessionEnd::Closed], WorkerEnd::DoorFault) && left.door.faults() == 1);
+    assert!(rt;
+        ends_so(&left, &[SessionEnd::Closed], WorkerEnd::DoorFault) && left.door.faults() == 1
+    );
     Ok(())
 }
 
@@ -98,7 +113,12 @@ fn a_door_that_fails_ends_the_worker(rt: HostRuntime) -> Result<(), Fail> {
 fn a_session_without_a_turn_ends_the_worker(rt: HostRuntime) -> Result<(), Fail> {
     let alloc = rt.alloc();
     let left = work(&rt, alloc, 0x7fff_ffff_ffff_ffff, four_links(alloc)?, &[])?;
-    let ends = [SessionEnd::Closed, SessionEnd::ReadFault, SessionEnd::Torn, SessionEnd::Worn];
+    let ends = [
+        SessionEnd::Closed,
+        SessionEnd::ReadFault,
+        SessionEnd::Torn,
+        SessionEnd::Worn,
+    ];
     assert!(rt; ends_so(&left, &ends, WorkerEnd::Worn));
     Ok(())
 }
