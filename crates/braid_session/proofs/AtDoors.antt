@@ -1,10 +1,9 @@
 -- Sessions of a door, one after another.
-use Rattle.std.proofs.Common.{◌≡◌, ℕ, ◌≤◌, ◌<◌, ◌+◌, ◌-◌, false, List, [], ◌∷◌, ◌++◌, Option, None, Some, refl, ap, sym, ◌∙◌, subst, length, map, arith, append_assoc, append-nil, length-append}
+use Rattle.std.proofs.Common.{◌≡◌, ℕ, ◌≤◌, ◌<◌, ◌+◌, ◌-◌, false, List, [], ◌∷◌, ◌++◌, Option, None, Some, refl, ap, sym, ◌∙◌, subst, length, arith, append_assoc, append-nil, length-append}
 use Rattle.std.specs.Prelude.{flat_map}
-use Rattle.std.specs.Option.{option_map}
 use Rattle.std.specs.List.{AllByRecursion}
 use Rattle.std.proofs.lemmas.List.{map-append}
-use Rattle.braid_io.specs.Outside.{Intake, Outflow, Rose, IsNewLink, HasOne, HasNone, one_more, one_fewer, joint_count}
+use Rattle.braid_io.specs.Outside.{Intake, Outflow, Rose, IsNewLink, HasOne, one_fewer, joint_count}
 use Rattle.braid_io.specs.Bells.{Ringing}
 use Rattle.braid_io.specs.Doors.{Visit, Doorway, Admits, PutsBack}
 use Rattle.braid_hall.specs.Passes.{PassView}
@@ -16,7 +15,7 @@ use Rattle.braid_session.specs.declared.worker.WorkerEnd.{WorkerEnd}
 use Rattle.braid_session.specs.declared.worker.WorkerEnd.TheVariants.{DoorEnd, DoorFault, Worn, Memory}
 use Rattle.braid_session.specs.Sessions.{Placed}
 use Rattle.braid_session.specs.Ends.{Passed, Rung, Serves}
-use Rattle.braid_session.specs.Doors.{Session, FitsVisit, notes_of, marks_of, added_of, visits_of, NoneWorn, with_visits, more_by, read_faults_with, write_faults_with, Visited, DoorFaultsOnlyAt, EndsWorker}
+use Rattle.braid_session.specs.Doors.{Session, FitsVisit, notes_of, marks_of, added_of, visits_of, with_visits, more_by, read_faults_with, write_faults_with, Visited, DoorFaultsOnlyAt, EndsWorker}
 use Rattle.braid_session.specs.DoorSteps.{ServesLink, IsUnserved, Accepted, HasServed, HasEnded}
 use Rattle.braid_session.proofs.Passing.{passed_none, passed_both, rung_both, within}
 use Rattle.braid_session.proofs.Lasting.{fits_later, all_both, all_two}

@@ -1,5 +1,5 @@
 -- A session at a door that fits a book fits each longer one.
-use Rattle.std.proofs.Common.{◌≡◌, ℕ, ◌≤◌, List, [], ◌∷◌, ◌++◌, refl, ap, sym, subst, length, arith, length-append}
+use Rattle.std.proofs.Common.{◌≡◌, ℕ, ◌≤◌, List, [], ◌∷◌, ◌++◌, refl, sym, subst, length, arith, length-append}
 use Rattle.std.specs.List.{AllByRecursion}
 use Rattle.braid_io.specs.Outside.{Intake, Outflow}
 use Rattle.braid_hall.specs.Histories.{IsPrefix}

@@ -54,7 +54,9 @@ fn work<R: Wait>(
     ticket: u64,
     links: Vec<MemLink>,
     fails: &[u64],
-) -> Result<Left, Memory> {
+) -> Result<Left, Memory>
+    requires unused { All IsUnused links.items }
+{
     let (hall, mut pass) = Hall::open_at(alloc, Book::new(alloc), ticket)?;
     let mut door = MemDoor::new(alloc, links, Vec::from_slice(alloc, fails)?)?;
     let mut bell = MemBell::new(0);

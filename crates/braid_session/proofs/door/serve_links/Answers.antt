@@ -1,4 +1,4 @@
-use Rattle.std.proofs.Common.{rules, ◌≡◌, ◌∙◌}
+use Rattle.std.proofs.Common.{◌∙◌}
 use Rattle.braid_session.specs.Orders.{serving_now}
 use Rattle.braid_session.proofs.AtDoors.{served_none, served_more, ended}
 use Rattle.braid_session.proofs.door.serve_links.Goals as goal
