@@ -1,0 +1,73 @@
+-- The command of `serve` is one of which clap's words say all.
+use Rattle.std.proofs.Common.{◌≡◌, ◌≢◌, ℕ, ◌<◌, ◌≤◌, ◌^◌, arith, refl, sym, true, ap, subst, codes, option_map, Option, Some, None, Bor, List, [], inl, inr, ◌∙◌}
+use Rattle.clap.specs.Words.{App, Text, Kinds, app_of, is_simple, is_simple_and_free, fault_of, HasMatchesOf, HasKind, kind_of, rows_of, found_of, matches_of, first_of, first_value}
+use Rattle.clap.specs.declared.builder.command.Command.{Command}
+use Rattle.clap.specs.declared.error.Error.{Error}
+use Rattle.clap.specs.declared.error.kind.ErrorKind.TheVariants as kind
+use Rattle.clap.specs.declared.parser.matches.ArgMatches.{ArgMatches}
+use Rattle.clap.proofs.OnLiterals.{clap_on_literals}
+use Rattle.clap.proofs.WalkLemmas.{first_value-rows}
+use Rattle.braid_io.specs.declared.port.Asked.{Asked}
+use Rattle.braid_fields.specs.Places.{IsServer}
+use Rattle.braid_server.specs.Commands.{serve_app, HasValues, AreTaken, value_of, IsNumberIn, IsNumberOr, AsksFor}
+
+pub serve_is_simple : is_simple serve_app ≡ true
+unfolding serve_app clap_on_literals
+serve_is_simple = refl
+
+pub serve_is_free : is_simple_and_free serve_app ≡ true
+unfolding serve_app clap_on_literals
+serve_is_free = refl
+
+pub free_of : (a : App) → a ≡ serve_app → is_simple_and_free a ≡ true
+free_of a is = ap is_simple_and_free is ∙ serve_is_free
+
+pub values_for : (words : List Text) (a : App) (m : ArgMatches) → a ≡ serve_app
+    → fault_of a words ≡ [] → HasMatchesOf a words m → HasValues words m
+values_for words a m is taken rows = record {
+  taken = subst (λ (b : App). fault_of b words ≡ []) is taken;
+  rows = (subst (λ (b : App). HasMatchesOf b words m) is rows serve_is_simple).0;
+}
+
+pub refused_for : (words : List Text) (a : App) (e : Error) → a ≡ serve_app
+    → HasKind (fault_of a words) e → kind_of e ≢ kind.OutOfMemory → AreTaken words → ⊥
+refused_for words a e is fails other taken =
+    go (subst (λ (k : Kinds). HasKind k e) (ap (λ (b : App). fault_of b words) is ∙ taken) fails)
+  where
+    go : HasKind [] e → ⊥
+    go h = elim h [ inl m ↦ other m | inr b ↦ b ]
+
+-- the getter gives the words' value
+pub value_is : (words : List Text) (m : ArgMatches) (name : List ℕ) (o : Option (Bor Text)) → HasValues words m
+    → option_map (λ s. s.now) o ≡ first_value (found_of m) name → option_map (λ s. s.now) o ≡ value_of name words
+value_is words m name o values is = is ∙ first_value-rows (found_of m) name ∙ ap (first_of name) values.rows
+
+-- a number of the words is a small one
+pub small : (default high : ℕ) (o : Option Text) (n : ℕ) → default < 2 ^ 32 → high < 2 ^ 32 → IsNumberOr default 1 high o n → n < 2 ^ 32
+small default high None n d h is = omega (arith, is, d)
+small default high (Some t) n d h is = let m = is.most in omega (arith, m, h)
+
+-- words without a server ask for nothing
+pub no_server : (words : List Text) (o : Option (Bor Text)) → option_map (λ s. s.now) o ≡ value_of (codes "server") words → o ≡ None → (asked : Asked) → AsksFor words asked → ⊥
+no_server words o is none asked a = let e = sym is ∙ refl in let s = a.server in grind (arith, is, none, s)
+
+-- nor do those with one that is no address
+pub no_address : (words : List Text) (o : Option (Bor Text)) (x : Bor Text) → option_map (λ s. s.now) o ≡ value_of (codes "server") words → o ≡ Some x → ¬ IsServer x.now
+    → (asked : Asked) → AsksFor words asked → ⊥
+no_address words o x is some not asked a = not (subst IsServer (go a.server) a.address)
+  where
+    go : value_of (codes "server") words ≡ Some asked.server → asked.server ≡ x.now
+    go s = grind (arith, is, some, s)
+
+-- nor those with a number that is none
+pub no_workers : (words : List Text) (o : Option (Bor Text)) → option_map (λ s. s.now) o ≡ value_of (codes "workers") words
+    → ((n : ℕ) → n < 2 ^ 32 → ¬ (IsNumberOr 4 1 32 (option_map (λ s. s.now) o) n)) → (asked : Asked) → AsksFor words asked → ⊥
+no_workers words o is not asked a =
+    let w = subst (λ z. IsNumberOr 4 1 32 z asked.workers) (sym is) a.workers in
+    not asked.workers (small 4 32 (option_map (λ s. s.now) o) asked.workers (omega arith) (omega arith) w) w
+
+pub no_take : (words : List Text) (o : Option (Bor Text)) → option_map (λ s. s.now) o ≡ value_of (codes "take") words
+    → ((n : ℕ) → n < 2 ^ 32 → ¬ (IsNumberOr 1_000_000 1 1_000_000 (option_map (λ s. s.now) o) n)) → (asked : Asked) → AsksFor words asked → ⊥
+no_take words o is not asked a =
+    let w = subst (λ z. IsNumberOr 1_000_000 1 1_000_000 z asked.take) (sym is) a.take in
+    not asked.take (small 1_000_000 1_000_000 (option_map (λ s. s.now) o) asked.take (omega arith) (omega arith) w) w

@@ -1,0 +1,31 @@
+-- How a run ends.
+use Rattle.std.proofs.Common.{◌≡◌, ℕ, List, [], ◌∷◌, ◌++◌, ◌⊎◌, inl, inr, refl, ap, sym, ◌∙◌, subst, length, Option, Some, None}
+use Rattle.std.specs.Prelude.{All}
+use Rattle.braid_io.specs.Outside.{Outflow, WritesAll, WritesPart, with_last}
+use Rattle.braid_io.specs.Bells.{Ringing}
+use Rattle.braid_io.specs.Doors.{Doorway, Porting, IsNewPair}
+use Rattle.braid_io.specs.declared.port.Asked.{Asked}
+use Rattle.braid_io.specs.declared.status.Status.TheVariants.{Memory}
+use Rattle.braid_store.specs.declared.entry.Entry.{Entry}
+use Rattle.braid_session.specs.declared.worker.WorkerNote.{WorkerNote}
+use Rattle.braid_server.specs.declared.serve.Served.{Served}
+use Rattle.braid_server.specs.declared.crew.Crew.{Crew}
+use Rattle.braid_server.specs.Workers.{HaveWorked, LeavesCrew}
+use Rattle.braid_server.specs.Texts.{serving_line}
+use Rattle.braid_server.specs.Runs.{Finishes, FinishesWith, PrintsLast, BeforeWork, without_workers, ServesPairs, no_work, work}
+
+-- what is left of a crew decides what is left of the run
+pub pairs_served : {D L : Type 0} (doorway : D → Doorway) (ringing : L → Ringing) (asked : Asked) (given : List (D × L)) (crew : Crew D L) (served : Served D L) (old middle new : Outflow)
+    → WritesAll (serving_line asked.server) old middle → LeavesCrew doorway ringing given crew.doors.items crew.notes crew.book → Finishes crew served middle new
+    → ServesPairs doorway ringing asked given served old new
+pairs_served doorway ringing asked given crew served old middle new wrote left f = go crew.notes left f.ends
+  where
+    go : (notes : Option (List WorkerNote)) → LeavesCrew doorway ringing given crew.doors.items notes crew.book → FinishesWith notes crew served middle new
+        → ServesPairs doorway ringing asked given served old new
+    go None l e = no_work e.0 (f.doors ∙ l.0)
+        (subst (λ (b : Option (List Entry)). BeforeWork (serving_line asked.server) served.status old new b) (sym (f.book ∙ ap Some l.1))
+          (without_workers e.1 (subst (λ (o : Outflow). WritesAll (serving_line asked.server) old o) (sym e.2) wrote)))
+    go (Some notes) l e = work crew.book middle f.book e.1
+        (subst (λ (d : List _). HaveWorked doorway ringing given d served.workers crew.book) (sym f.doors)
+          (subst (λ (n : List WorkerNote). HaveWorked doorway ringing given crew.doors.items n crew.book) (sym e.0) l))
+        wrote (subst (λ (n : List WorkerNote). PrintsLast crew.book n served.status middle new) (sym e.0) e.2)
