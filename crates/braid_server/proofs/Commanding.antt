@@ -1,5 +1,7 @@
 -- The command of `serve` is one of which clap's words say all.
-use Rattle.std.proofs.Common.{◌≡◌, ◌≢◌, ℕ, ◌<◌, ◌≤◌, ◌^◌, arith, refl, sym, true, ap, subst, codes, option_map, Option, Some, None, Bor, List, [], inl, inr, ◌∙◌}
+use Rattle.std.proofs.Common.{◌≡◌, ◌≢◌, ℕ, ◌<◌, ◌≤◌, ◌^◌, arith, refl, sym, true, ap, subst, codes, option_map, Option, Some, None, Bor, List, [], ◌∷◌, inl, inr, ◌∙◌, Result, Ok, Err, IfOk}
+use Rattle.std.specs.Prelude.{IsUtf8}
+use Rattle.std.specs.List.{AllByRecursion}
 use Rattle.clap.specs.Words.{App, Text, Kinds, app_of, is_simple, is_simple_and_free, fault_of, HasMatchesOf, HasKind, kind_of, rows_of, found_of, matches_of, first_of, first_value}
 use Rattle.clap.specs.declared.builder.command.Command.{Command}
 use Rattle.clap.specs.declared.error.Error.{Error}
@@ -9,7 +11,8 @@ use Rattle.clap.proofs.OnLiterals.{clap_on_literals}
 use Rattle.clap.proofs.WalkLemmas.{first_value-rows}
 use Rattle.braid_io.specs.declared.port.Asked.{Asked}
 use Rattle.braid_fields.specs.Places.{IsServer}
-use Rattle.braid_server.specs.Commands.{serve_app, HasValues, AreTaken, value_of, IsNumberIn, IsNumberOr, AsksFor}
+use Rattle.braid_server.specs.Commands.{serve_app, HasValues, AreTaken, value_of, IsNumberIn, IsNumberOr, AsksFor, IsForm}
+use Rattle.braid_server.specs.declared.command.FormFault.{FormFault}
 
 pub serve_is_simple : is_simple serve_app ≡ true
 unfolding serve_app clap_on_literals
@@ -49,15 +52,19 @@ small default high (Some t) n d h is = let m = is.most in omega (arith, m, h)
 
 -- words without a server ask for nothing
 pub no_server : (words : List Text) (o : Option (Bor Text)) → option_map (λ s. s.now) o ≡ value_of (codes "server") words → o ≡ None → (asked : Asked) → AsksFor words asked → ⊥
-no_server words o is none asked a = let e = sym is ∙ refl in let s = a.server in grind (arith, is, none, s)
+no_server words o is none asked a = absurd (cc (sym (ap (option_map (λ (s : Bor Text). s.now)) none) ∙ is ∙ a.server))
+
+-- the server that they name
+server_is : (words : List Text) (o : Option (Bor Text)) (x : Bor Text) → option_map (λ s. s.now) o ≡ value_of (codes "server") words → o ≡ Some x → value_of (codes "server") words ≡ Some x.now
+server_is words o x is some = sym is ∙ ap (option_map (λ (s : Bor Text). s.now)) some
 
 -- nor do those with one that is no address
 pub no_address : (words : List Text) (o : Option (Bor Text)) (x : Bor Text) → option_map (λ s. s.now) o ≡ value_of (codes "server") words → o ≡ Some x → ¬ IsServer x.now
     → (asked : Asked) → AsksFor words asked → ⊥
-no_address words o x is some not asked a = not (subst IsServer (go a.server) a.address)
+no_address words o x is some not asked a = not (subst IsServer (same (sym a.server ∙ server_is words o x is some)) a.address)
   where
-    go : value_of (codes "server") words ≡ Some asked.server → asked.server ≡ x.now
-    go s = grind (arith, is, some, s)
+    same : {s t : Text} → Some s ≡ Some t → s ≡ t
+    same e = cc e
 
 -- nor those with a number that is none
 pub no_workers : (words : List Text) (o : Option (Bor Text)) → option_map (λ s. s.now) o ≡ value_of (codes "workers") words
@@ -71,3 +78,28 @@ pub no_take : (words : List Text) (o : Option (Bor Text)) → option_map (λ s. 
 no_take words o is not asked a =
     let w = subst (λ z. IsNumberOr 1_000_000 1 1_000_000 z asked.take) (sym is) a.take in
     not asked.take (small 1_000_000 1_000_000 (option_map (λ s. s.now) o) asked.take (omega arith) (omega arith) w) w
+
+-- what is asked for, where the values are a server's address and two numbers
+pub asks_for : (words : List Text) (m : ArgMatches) (server : Option (Bor Text)) (x : Bor Text) (workers take : Option (Bor Text)) (asked : Asked) → HasValues words m
+    → option_map (λ s. s.now) server ≡ first_value (found_of m) (codes "server") → server ≡ Some x → IsServer x.now → asked.server ≡ x.now
+    → option_map (λ s. s.now) workers ≡ first_value (found_of m) (codes "workers") → IsNumberOr 4 1 32 (option_map (λ s. s.now) workers) asked.workers
+    → option_map (λ s. s.now) take ≡ first_value (found_of m) (codes "take") → IsNumberOr 1_000_000 1 1_000_000 (option_map (λ s. s.now) take) asked.take
+    → AsksFor words asked
+asks_for words m server x workers take asked values server_is_given some address same workers_given number take_given count = record {
+  taken = values.taken;
+  server = server_is words server x (value_is words m (codes "server") server values server_is_given) some ∙ ap Some (sym same);
+  address = subst IsServer (sym same) address;
+  workers = subst (λ (o : Option Text). IsNumberOr 4 1 32 o asked.workers) (value_is words m (codes "workers") workers values workers_given) number;
+  take = subst (λ (o : Option Text). IsNumberOr 1_000_000 1 1_000_000 o asked.take) (value_is words m (codes "take") take values take_given) count;
+}
+
+-- the words of a form
+pub form_of : (words : List (List ℕ)) (first : List ℕ) (rest texts : List (List ℕ)) (r : Result Asked FormFault) → words ≡ first ∷ rest → first ≡ codes "serve" → texts ≡ rest
+    → AllByRecursion IsUtf8 rest → IfOk r (λ asked. AsksFor texts asked) → IfOk r (λ asked. IsForm words asked)
+form_of words first rest texts (Ok asked) is serve same text asks = record {
+  texts = rest;
+  serve = is ∙ ap (λ (w : List ℕ). w ∷ rest) serve;
+  text = text;
+  asks = subst (λ (l : List Text). AsksFor l asked) same asks;
+}
+form_of words first rest texts (Err e) is serve same text asks = tt

@@ -1,8 +1,8 @@
 -- Words on lists that the workers' proofs need.
-use Rattle.std.proofs.Common.{◌≡◌, ℕ, zero, suc, ◌+◌, ◌<◌, ◌≤◌, Bool, true, false, cond, List, [], ◌∷◌, ◌++◌, refl, ap, sym, ◌∙◌, subst, length, map, get_or, arith, append-nil, length-append}
+use Rattle.std.proofs.Common.{◌≡◌, ℕ, zero, suc, ◌+◌, ◌<◌, ◌≤◌, Bool, true, false, cond, List, [], ◌∷◌, ◌++◌, refl, ap, sym, ◌∙◌, subst, length, map, get_or, arith, append-nil, append_assoc, length-append}
 use Rattle.std.specs.Prelude.{All, filter, flat_map}
 use Rattle.std.specs.List.{AllByRecursion, AllZip}
-use Rattle.std.proofs.lemmas.List.{length-map, get_or-map}
+use Rattle.std.proofs.lemmas.List.{length-map, get_or-map, map-append}
 use Rattle.braid_hall.specs.Views.{total}
 
 pub all_each : {X : Type 0} (P : X → Type 0) (xs : List X) → All P xs → AllByRecursion P xs
@@ -62,3 +62,11 @@ zip_each R [] (y ∷ ys) long h = absurd (cc long)
 zip_each R (x ∷ xs) [] long h = absurd (cc long)
 zip_each R (x ∷ xs) (y ∷ ys) long h =
     (h 0 x (omega arith), zip_each R xs ys (omega (arith, long)) (λ k d inside. h (suc k) d (omega (arith, inside))))
+
+-- one element more, taken from the front of those that are left
+pub taken_more : {X : Type 0} (whole front : List X) (x : X) (left rest : List X) → whole ≡ front ++ left → left ≡ x ∷ rest → whole ≡ front ++ x ∷ [] ++ rest
+taken_more whole front x left rest is next = is ∙ ap (λ l. front ++ l) next ∙ sym (append_assoc front (x ∷ []) rest)
+
+-- one image more at the end
+pub mapped_last : {X Y : Type 0} (f : X → Y) (xs : List X) (x : X) (old new : List Y) → old ≡ map f xs → new ≡ old ++ f x ∷ [] → new ≡ map f (xs ++ x ∷ [])
+mapped_last f xs x old new is more = more ∙ ap (λ l. l ++ f x ∷ []) is ∙ sym (map-append f xs (x ∷ []))

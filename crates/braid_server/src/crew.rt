@@ -14,6 +14,7 @@ use braid_session::{ListSessionNote, ListWorkerNote, WorkerEnd, WorkerNote};
 use braid_store::Book;
 use std::alloc::Global;
 use std::collections::VecDeque;
+use std::marker::Send;
 use std::sync::Wait;
 use std::thread::Threads;
 
@@ -81,8 +82,7 @@ fn hire<D: Door, L: Bell>(
         let Some(pass) = passes_left.pop_front() else {
             unreachable!()
         };
-        let kept = workers.push(worker_of(alloc, pair, pass));
-        prove!(kept.is_ok());
+        workers.push_reserved(worker_of(alloc, pair, pass));
     }
 }
 
@@ -114,12 +114,9 @@ fn part<D: Door, L: Bell>(
             pass,
             note,
         } = worker;
-        let door_kept = doors.push((door, bell));
-        prove!(door_kept.is_ok());
-        let pass_kept = passes.push(pass);
-        prove!(pass_kept.is_ok());
-        let note_kept = notes.push(note);
-        prove!(note_kept.is_ok());
+        doors.push_reserved((door, bell));
+        passes.push_reserved(pass);
+        notes.push_reserved(note);
     }
 }
 
@@ -130,6 +127,8 @@ fn run_workers<D: Door, L: Bell, R: Threads + Wait + Sync>(
     root: &Pass<Book>,
     workers: &mut [Worker<D, L>],
 )
+where
+    D::Link: Send,
     requires away { AreAway hall.now root.now (passes_of workers.old) }
     ensures ran { AllZip (RanDoor D.doorway L.ringing) workers.old workers.new }
     ensures away { AreAway hall.now root.now (passes_of workers.new) }
@@ -174,6 +173,8 @@ pub(crate) fn run_crew<D: Door, L: Bell, R: Threads + Wait + Sync>(
     pairs: Vec<(D, L)>,
     count: u32,
 ) -> Crew<D, L>
+where
+    D::Link: Send,
     requires fresh { root ≡ first_pass hall 0 [] }
     requires many { vec_len pairs ≡ count }
     ensures crew { LeavesCrew D.doorway L.ringing pairs.items result.doors.items result.notes result.book }

@@ -31,8 +31,7 @@ fn texts_of<'a>(alloc: Global, words: &'a [Word]) -> Result<Vec<&'a str>, FormFa
         let Ok(text) = str::from_utf8(word.get()) else {
             return Err(FormFault::NoForm);
         };
-        let kept = texts.push(text);
-        prove!(kept.is_ok());
+        texts.push_reserved(text);
     }
     Ok(texts)
 }

@@ -196,10 +196,8 @@ impl Port for GatePort {
         let Some((front, back)) = self.plans.take() else {
             return self.fail();
         };
-        let front_kept = pairs.push(pair_of(alloc, front));
-        prove!(front_kept.is_ok());
-        let back_kept = pairs.push(pair_of(alloc, back));
-        prove!(back_kept.is_ok());
+        pairs.push_reserved(pair_of(alloc, front));
+        pairs.push_reserved(pair_of(alloc, back));
         Opened::Up(pairs)
     }
 }

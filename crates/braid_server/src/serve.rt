@@ -14,6 +14,7 @@ use braid_io::{Asked, Bell, Door, Opened, Port, Sink, Status, write_all};
 use braid_session::ListWorkerNote;
 use braid_store::Book;
 use std::alloc::Global;
+use std::marker::Send;
 use std::sync::Wait;
 use std::thread::Threads;
 
@@ -111,6 +112,8 @@ fn serve_pairs<R: Threads + Wait + Sync, D: Door, L: Bell, O: Sink>(
     pairs: Vec<(D, L)>,
     out: &mut O,
 ) -> Served<D, L>
+where
+    D::Link: Send,
     requires many { vec_len pairs ≡ asked.now.workers }
     ensures serves { ServesPairs D.doorway L.ringing asked.now pairs.items result (O.outflow out.old) (O.outflow out.new) }
     ensures kept { O.beside_writes out.new ≡ O.beside_writes out.old }
@@ -145,6 +148,8 @@ pub fn serve_run<R: Threads + Wait + Sync, P: Port, O: Sink>(
     port: &mut P,
     out: &mut O,
 ) -> Served<P::Door, P::Bell>
+where
+    <P::Door as Door>::Link: Send,
     ensures runs { ServeRuns P.Door.doorway P.Bell.ringing words.now result (P.porting port.old) (P.porting port.new) (O.outflow out.old) (O.outflow out.new) }
     ensures kept { O.beside_writes out.new ≡ O.beside_writes out.old }
 {
