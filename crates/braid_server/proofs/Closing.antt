@@ -18,7 +18,7 @@ abbrev pub by_of : Entry → ℕ
 by_of e = e.by
 
 -- passes that were split off from one, numbered on from the number after n
-pub AreNew : PassView Entry → ℕ → List (PassView Entry) → Type 0
+unfoldable pub AreNew : PassView Entry → ℕ → List (PassView Entry) → Type 0
 AreNew p n [] = Unit {0}
 AreNew p n (x ∷ xs) = (x ≡ record (new_pass p) { number = n + 1 }) × AreNew p (n + 1) xs
 
@@ -50,11 +50,12 @@ none_ended : (p last : PassView Entry) (n : ℕ) (xs : List (PassView Entry)) �
     → (m : ℕ) → n < m → m ≤ n + length xs → Contains last.ended (m, [])
 unfolding AreNew
 none_ended p last n [] new ended m low high = absurd (omega (arith, low, high))
-none_ended p last n (x ∷ xs) new ended m low high = go (cases_eq (n + 1) m)
+none_ended p last n (x ∷ xs) new ended m low high =
+    go (cases_eq (n + 1) m) (λ ne. none_ended p last (n + 1) xs new.1 ended.1 m (omega (arith, low, ne)) (omega (arith, high)))
   where
-    go : (n + 1 ≡ m) ⊎ (n + 1 ≡ m → ⊥) → Contains last.ended (m, [])
-    go (inl e) = subst (λ (y : ℕ × List Entry). Contains last.ended y) (ap (λ (z : PassView Entry). (z.number, z.mine)) new.0 ∙ ap (λ (k : ℕ). (k, [])) e) ended.0
-    go (inr ne) = none_ended p last (n + 1) xs new.1 ended.1 m (omega (arith, low, ne)) (omega (arith, high))
+    go : (n + 1 ≡ m) ⊎ (n + 1 ≡ m → ⊥) → ((n + 1 ≡ m → ⊥) → Contains last.ended (m, [])) → Contains last.ended (m, [])
+    go (inl e) rest = subst (λ (y : ℕ × List Entry). Contains last.ended y) (ap (λ (z : PassView Entry). (z.number, z.mine)) new.0 ∙ ap (λ (k : ℕ). (k, [])) e) ended.0
+    go (inr ne) rest = rest ne
 
 module _ (hall : TableId) (p root : PassView Entry) (passes backs : List (PassView Entry)) (count : ℕ) (history : List Entry)
     (first : p ≡ first_pass hall 0 []) (split : SplitsAll hall p count root passes) (closed : IsClosed by_of root backs history) where

@@ -5,14 +5,15 @@ use Rattle.braid_io.specs.Outside.{Outflow, WritesAll, WritesPart, with_last}
 use Rattle.braid_io.specs.Bells.{Ringing}
 use Rattle.braid_io.specs.Doors.{Doorway, Porting, IsNewPair}
 use Rattle.braid_io.specs.declared.port.Asked.{Asked}
+use Rattle.braid_io.specs.declared.status.Status.{Status}
 use Rattle.braid_io.specs.declared.status.Status.TheVariants.{Memory}
 use Rattle.braid_store.specs.declared.entry.Entry.{Entry}
 use Rattle.braid_session.specs.declared.worker.WorkerNote.{WorkerNote}
 use Rattle.braid_server.specs.declared.serve.Served.{Served}
 use Rattle.braid_server.specs.declared.crew.Crew.{Crew}
-use Rattle.braid_server.specs.Workers.{HaveWorked, LeavesCrew}
-use Rattle.braid_server.specs.Texts.{serving_line}
-use Rattle.braid_server.specs.Runs.{Finishes, FinishesWith, PrintsLast, BeforeWork, without_workers, ServesPairs, no_work, work}
+use Rattle.braid_server.specs.Workers.{HaveWorked, LeavesCrew, sessions_of}
+use Rattle.braid_server.specs.Texts.{serving_line, last_lines, Prints}
+use Rattle.braid_server.specs.Runs.{status_of, Finishes, FinishesWith, PrintsLast, BeforeWork, without_workers, ServesPairs, no_work, work}
 
 -- what is left of a crew decides what is left of the run
 pub pairs_served : {D L : Type 0} (doorway : D → Doorway) (ringing : L → Ringing) (asked : Asked) (given : List (D × L)) (crew : Crew D L) (served : Served D L) (old middle new : Outflow)
@@ -29,3 +30,19 @@ pairs_served doorway ringing asked given crew served old middle new wrote left f
         (subst (λ (d : List _). HaveWorked doorway ringing given d served.workers crew.book) (sym f.doors)
           (subst (λ (n : List WorkerNote). HaveWorked doorway ringing given crew.doors.items n crew.book) (sym e.0) l))
         wrote (subst (λ (n : List WorkerNote). PrintsLast crew.book n served.status middle new) (sym e.0) e.2)
+
+-- a run that ended before its workers began
+pub ended_before : {D L : Type 0} (doorway : D → Doorway) (ringing : L → Ringing) (asked : Asked) (given : List (D × L)) (served : Served D L) (old new : Outflow) (book : Option (List Entry))
+    → served.workers ≡ [] → served.doors.items ≡ given → served.book ≡ book → BeforeWork (serving_line asked.server) served.status old new book
+    → ServesPairs doorway ringing asked given served old new
+ended_before doorway ringing asked given served old new book workers doors is before =
+    no_work workers doors (subst (λ (b : Option (List Entry)). BeforeWork (serving_line asked.server) served.status old new b) (sym is) before)
+
+-- what was printed last
+pub prints_last : (book : List Entry) (notes counted judged : List WorkerNote) (text lines : List ℕ) (versions sessions : ℕ) (own status : Status) (old new : Outflow)
+    → text ≡ lines → lines ≡ last_lines versions sessions → versions ≡ length book → sessions ≡ sessions_of counted → counted ≡ notes → own ≡ status_of judged → judged ≡ notes
+    → Prints text own status old new → PrintsLast book notes status old new
+prints_last book notes counted judged text lines versions sessions own status old new is lines_are versions_are sessions_are same own_is also p =
+    inl (subst (λ (t : List ℕ). Prints t (status_of notes) status old new)
+          (is ∙ lines_are ∙ ap (λ (v : ℕ). last_lines v sessions) versions_are ∙ ap (last_lines (length book)) (sessions_are ∙ ap sessions_of same))
+          (subst (λ (s : Status). Prints text s status old new) (own_is ∙ ap status_of also) p))

@@ -125,15 +125,15 @@ fn run_workers<D: Door, L: Bell, R: Threads + Wait + Sync>(
     rt: &R,
     hall: &Hall<Book>,
     root: &Pass<Book>,
-    workers: &mut [Worker<D, L>],
+    workers: &mut Vec<Worker<D, L>>,
 )
 where
     D::Link: Send,
-    requires away { AreAway hall.now root.now (passes_of workers.old) }
-    ensures ran { AllZip (RanDoor D.doorway L.ringing) workers.old workers.new }
-    ensures away { AreAway hall.now root.now (passes_of workers.new) }
+    requires away { AreAway hall.now root.now (passes_of workers.old.items) }
+    ensures ran { AllZip (RanDoor D.doorway L.ringing) workers.old.items workers.new.items }
+    ensures away { AreAway hall.now root.now (passes_of workers.new.items) }
 {
-    run_all(rt, hall, workers);
+    run_all(rt, hall, workers.as_mut_slice());
 }
 
 /// What a crew leaves: the book that was closed; where its workers ran, their notes; and the doors with their bells.
@@ -195,7 +195,7 @@ where
         mut notes,
     } = lists;
     hire(alloc, pairs, passes, &mut workers);
-    run_workers(rt, &hall, &root, workers.as_mut_slice());
+    run_workers(rt, &hall, &root, &mut workers);
     part(workers, &mut doors, &mut passes_back, &mut notes);
     Crew {
         book: close_all(hall, root, passes_back),
