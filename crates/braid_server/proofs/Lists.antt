@@ -76,3 +76,11 @@ pub first_and_rest : {X : Type 0} (xs : List X) (x : X) → 1 ≤ length xs → 
 first_and_rest [] x long is = absurd (omega (arith, long))
 first_and_rest (y ∷ ys) x long is =
     ap (λ z. z ∷ ys) (sym is) ∙ ap (λ l. x ∷ l) (sym (take_all (length (y ∷ ys) - 1) ys (omega arith)))
+
+take_front : {X : Type 0} (xs ys : List X) → take (length xs) (xs ++ ys) ≡ xs
+take_front [] ys = refl
+take_front (x ∷ xs) ys = ap (λ l. x ∷ l) (take_front xs ys)
+
+-- as many as stand in front
+pub takes_front : {X : Type 0} (n : ℕ) (xs ys : List X) → n ≡ length xs → take n (xs ++ ys) ≡ xs
+takes_front n xs ys is = subst (λ m. take m (xs ++ ys) ≡ xs) (sym is) (take_front xs ys)
