@@ -25,12 +25,14 @@ AreNew p n (x ∷ xs) = (x ≡ record (new_pass p) { number = n + 1 }) × AreNew
 are_new : (p : PassView Entry) (n : ℕ) (xs : List (PassView Entry)) → ((k : ℕ) (x : PassView Entry) → get_elem? xs k ≡ some x → x ≡ record (new_pass p) { number = (n + k) + 1 }) → AreNew p n xs
 unfolding AreNew
 are_new p n [] h = tt
-are_new p n (x ∷ xs) h =
-    (h 0 x refl ∙ ap (λ (m : ℕ). record (new_pass p) { number = m }) (first n),
-     are_new p (n + 1) xs (λ k y e. h (suc k) y e ∙ ap (λ (m : ℕ). record (new_pass p) { number = m }) (next n k)))
+are_new p n (x ∷ xs) h = (
+  h 0 x refl ∙ ap (λ (m : ℕ). record (new_pass p) { number = m }) (first n),
+  are_new p (n + 1) xs (λ k y e. h (suc k) y e ∙ ap (λ (m : ℕ). record (new_pass p) { number = m }) (next n k)),
+)
   where
     first : (n : ℕ) → (n + 0) + 1 ≡ n + 1
     first n = omega arith
+
     next : (n k : ℕ) → (n + suc k) + 1 ≡ ((n + 1) + k) + 1
     next n k = omega arith
 
@@ -42,7 +44,7 @@ no_entry top (e ∷ es) none below =
     let h = none e.by below.0 in
     let same : (e.by == e.by) ≡ true = eq-eqb e.by e.by refl in
     let kept : filter (λ (x : Entry). x.by == e.by) (e ∷ es) ≡ e ∷ filter (λ (x : Entry). x.by == e.by) es =
-        ap (λ c. cond c (e ∷ filter (λ (x : Entry). x.by == e.by) es) (filter (λ (x : Entry). x.by == e.by) es)) same in
+    ap (λ c. cond c (e ∷ filter (λ (x : Entry). x.by == e.by) es) (filter (λ (x : Entry). x.by == e.by) es)) same in
     absurd (cc (h, kept))
 
 -- passes that took no turn ended without entries
@@ -109,10 +111,13 @@ empty_book hall p root passes count history first split closed =
   where
     new : AreNew p 0 passes
     new = new_passes hall p root passes passes count history first split closed
+
     open_is : closed.last.opening ≡ []
     open_is = none_open hall p root passes passes count history first split closed
+
     ended : AllByRecursion (λ (q : PassView Entry). Contains closed.last.ended (q.number, q.mine)) passes
     ended = all_each (λ (q : PassView Entry). Contains closed.last.ended (q.number, q.mine)) passes closed.joins_all.ended
+
     none : (n : ℕ) → n ≤ length passes → filter (λ (e : Entry). e.by == n) closed.last.seen ≡ []
     none zero below = none_first hall p root passes passes count history first split closed
     none (suc n) below =

@@ -25,10 +25,10 @@ pairs_served doorway ringing asked given crew served old middle new wrote left f
         → ServesPairs doorway ringing asked given served old new
     go None l e = no_work e.0 (f.doors ∙ l.0)
         (subst (λ (b : Option (List Entry)). BeforeWork (serving_line asked.server) served.status old new b) (sym (f.book ∙ ap Some l.1))
-          (without_workers e.1 (subst (λ (o : Outflow). WritesAll (serving_line asked.server) old o) (sym e.2) wrote)))
+        (without_workers e.1 (subst (λ (o : Outflow). WritesAll (serving_line asked.server) old o) (sym e.2) wrote)))
     go (Some notes) l e = work crew.book middle f.book e.1
         (subst (λ (d : List _). HaveWorked doorway ringing given d served.workers crew.book) (sym f.doors)
-          (subst (λ (n : List WorkerNote). HaveWorked doorway ringing given crew.doors.items n crew.book) (sym e.0) l))
+        (subst (λ (n : List WorkerNote). HaveWorked doorway ringing given crew.doors.items n crew.book) (sym e.0) l))
         wrote (subst (λ (n : List WorkerNote). PrintsLast crew.book n served.status middle new) (sym e.0) e.2)
 
 -- a run that ended before its workers began
@@ -44,5 +44,5 @@ pub prints_last : (book : List Entry) (notes counted judged : List WorkerNote) (
     → Prints text own status old new → PrintsLast book notes status old new
 prints_last book notes counted judged text lines versions sessions own status old new is lines_are versions_are sessions_are same own_is also p =
     inl (subst (λ (t : List ℕ). Prints t (status_of notes) status old new)
-          (is ∙ lines_are ∙ ap (λ (v : ℕ). last_lines v sessions) versions_are ∙ ap (last_lines (length book)) (sessions_are ∙ ap sessions_of same))
-          (subst (λ (s : Status). Prints text s status old new) (own_is ∙ ap status_of also) p))
+    (is ∙ lines_are ∙ ap (λ (v : ℕ). last_lines v sessions) versions_are ∙ ap (last_lines (length book)) (sessions_are ∙ ap sessions_of same))
+    (subst (λ (s : Status). Prints text s status old new) (own_is ∙ ap status_of also) p))

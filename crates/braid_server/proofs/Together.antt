@@ -65,7 +65,7 @@ module _ {D L : Type 0} (doorway : D → Doorway) (ringing : L → Ringing) (p l
     fit = all_two (FitsVisit serving_now w.pass.number w.pass.seen w.pass.look) (FitsVisit serving_now w.pass.number w.pass.seen w.pass.look)
         (FitsVisit serving_now (n + 1) last.seen top) d.sessions
         (λ x f g. subst (λ (k : ℕ). FitsVisit serving_now k last.seen top x) same
-          (fits_later serving_now w.pass.number w.pass.seen last.seen w.pass.look top x f joined.begins (λ e. let l = joined.looks in omega (arith, l, high)))) d.fit d.fit;
+        (fits_later serving_now w.pass.number w.pass.seen last.seen w.pass.look top x f joined.begins (λ e. let l = joined.looks in omega (arith, l, high)))) d.fit d.fit;
     own = sym (ap (λ (o : List Entry). added_by by_of o (n + 1) last.seen) opening)
         ∙ sym (accounts.only (n + 1) w.pass.mine (subst (λ (m : ℕ). Contains last.ended (m, w.pass.mine)) same joined.ended))
         ∙ (d.passed.mine ∙ ap (λ (z : PassView Entry). z.mine ++ entries_of (added_of d.sessions)) new);
@@ -80,6 +80,7 @@ module _ {D L : Type 0} (doorway : D → Doorway) (ringing : L → Ringing) (p l
     where
       number : v.pass.number ≡ n + 1
       number = ap (λ (z : PassView Entry). z.number) new
+
       same : w.pass.number ≡ n + 1
       same = d.passed.number ∙ number
 
@@ -107,7 +108,7 @@ module _ {D L : Type 0} (doorway : D → Doorway) (ringing : L → Ringing) (p :
       let turns = d.passed.turns in
       let marks : length (marks_of d.sessions) ≡ total (λ (x : Session). length x.note.marks.items) d.sessions = total_lengths (λ (x : Session). x.note.marks.items) d.sessions in
       let notes : total (λ (m : SessionNote). length m.marks.items) w.note.sessions ≡ total (λ (x : Session). length x.note.marks.items) d.sessions =
-          ap (total (λ (m : SessionNote). length m.marks.items)) d.noted ∙ total_mapped (λ (m : SessionNote). length m.marks.items) (λ (x : Session). x.note) d.sessions in
+      ap (total (λ (m : SessionNote). length m.marks.items)) d.noted ∙ total_mapped (λ (m : SessionNote). length m.marks.items) (λ (x : Session). x.note) d.sessions in
       let rest = turns_are (n + 1) vs ws ran.1 new.1 in
       omega (arith, zero, turns, marks, notes, rest)
 
@@ -128,36 +129,43 @@ pub have_worked : {D L : Type 0} (doorway : D → Doorway) (ringing : L → Ring
 have_worked doorway ringing hall p root vs ws passes count given history first split same pairs ran closed = record {
   each = subst (λ (h : List Entry). WorkOn doorway ringing h (turns_of (worker_notes ws)) 0 given (pairs_of ws) (worker_notes ws)) (sym closed.seen)
       (subst (λ z. WorkOn doorway ringing last.seen (turns_of (worker_notes ws)) 0 z (pairs_of ws) (worker_notes ws)) pairs
-        (work_on doorway ringing p last (turns_of (worker_notes ws)) high (none_seen hall p root passes backs count history first split closed)
-          (none_open hall p root passes backs count history first split closed) (accounts_for hall p root passes backs count history first split closed) 0 vs ws ran new joined));
+      (work_on doorway ringing p last (turns_of (worker_notes ws)) high (none_seen hall p root passes backs count history first split closed)
+      (none_open hall p root passes backs count history first split closed) (accounts_for hall p root passes backs count history first split closed) 0 vs ws ran new joined));
   numbers = subst (λ (h : List Entry). AllByRecursion (λ (e : Entry). (0 < e.by) × (e.by ≤ length (worker_notes ws))) h) (sym closed.seen)
       (numbered (length (worker_notes ws)) last.seen below
-        (none_passes (λ (e : Entry). e.by == 0) last.seen (none_first hall p root passes backs count history first split closed)));
+      (none_passes (λ (e : Entry). e.by == 0) last.seen (none_first hall p root passes backs count history first split closed)));
 }
   where
     last : PassView Entry
     last = closed.last
+
     backs : List (PassView Entry)
     backs = passes_of ws
+
     joins : JoinsAll root (passes_of ws) last
     joins = closed.joins_all
+
     new : AreNew p 0 (passes_of vs)
     new = subst (AreNew p 0) (sym same) (new_passes hall p root passes backs count history first split closed)
+
     joined : AllByRecursion (λ (w : Worker _ _). IsJoined last w.pass) ws
     joined = each_mapped (IsJoined last) (λ (w : Worker _ _). w.pass) ws
         (all_two (λ (q : PassView Entry). IsPrefix q.seen last.seen) (λ (q : PassView Entry). (q.look ≤ last.look) × Contains last.ended (q.number, q.mine)) (IsJoined last) (passes_of ws)
-          (λ q a b. record { begins = a; looks = b.0; ended = b.1 })
-          (all_each (λ (q : PassView Entry). IsPrefix q.seen last.seen) (passes_of ws) joins.each)
-          (all_two (λ (q : PassView Entry). q.look ≤ last.look) (λ (q : PassView Entry). Contains last.ended (q.number, q.mine)) (λ (q : PassView Entry). (q.look ≤ last.look) × Contains last.ended (q.number, q.mine)) (passes_of ws)
-            (λ q a b. (a, b))
-            (all_each (λ (q : PassView Entry). q.look ≤ last.look) (passes_of ws) joins.looks)
-            (all_each (λ (q : PassView Entry). Contains last.ended (q.number, q.mine)) (passes_of ws) joins.ended)))
+        (λ q a b. record { begins = a; looks = b.0; ended = b.1 })
+        (all_each (λ (q : PassView Entry). IsPrefix q.seen last.seen) (passes_of ws) joins.each)
+        (all_two (λ (q : PassView Entry). q.look ≤ last.look) (λ (q : PassView Entry). Contains last.ended (q.number, q.mine)) (λ (q : PassView Entry). (q.look ≤ last.look) × Contains last.ended (q.number, q.mine)) (passes_of ws)
+        (λ q a b. (a, b))
+        (all_each (λ (q : PassView Entry). q.look ≤ last.look) (passes_of ws) joins.looks)
+        (all_each (λ (q : PassView Entry). Contains last.ended (q.number, q.mine)) (passes_of ws) joins.ended)))
+
     many : length passes ≡ length (worker_notes ws)
     many =
         ap length (sym same) ∙ length-map vs (λ (w : Worker _ _). w.pass)
         ∙ length_all_zip (RanDoor doorway ringing) vs ws ran ∙ sym (length-map ws (λ (w : Worker _ _). w.note))
+
     below : AllByRecursion (λ (e : Entry). e.by ≤ length (worker_notes ws)) last.seen
     below = subst (λ (m : ℕ). AllByRecursion (λ (e : Entry). e.by ≤ m) last.seen) many (none_above hall p root passes backs count history first split closed)
+
     high : last.look ≤ turns_of (worker_notes ws)
     high =
         let l = looked hall p root passes backs count history first split closed in
@@ -171,5 +179,5 @@ pub crew_left : {D L : Type 0} (doorway : D → Doorway) (ringing : L → Ringin
     → IsClosed by_of root backs history → HaveWorked doorway ringing given after notes history
 crew_left doorway ringing hall p root vs ws passes count given after backs notes history first split same pairs ran doors_are passes_are notes_are closed =
     subst (λ (d : List _). HaveWorked doorway ringing given d notes history) (sym doors_are)
-      (subst (λ (n : List WorkerNote). HaveWorked doorway ringing given (pairs_of ws) n history) (sym notes_are)
-        (have_worked doorway ringing hall p root vs ws passes count given history first split same pairs ran (subst (λ (b : List (PassView Entry)). IsClosed by_of root b history) passes_are closed)))
+    (subst (λ (n : List WorkerNote). HaveWorked doorway ringing given (pairs_of ws) n history) (sym notes_are)
+    (have_worked doorway ringing hall p root vs ws passes count given history first split same pairs ran (subst (λ (b : List (PassView Entry)). IsClosed by_of root b history) passes_are closed)))

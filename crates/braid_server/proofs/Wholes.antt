@@ -56,10 +56,13 @@ module _ {D L : Type 0} (doorway : D → Doorway) (ringing : L → Ringing) wher
   none_refused book look n [] (back ∷ after) notes not h = absurd h
   none_refused book look n (pair ∷ given) [] notes not h = absurd h
   none_refused book look n (pair ∷ given) (back ∷ after) [] not h = absurd h
-  none_refused book look n (pair ∷ given) (back ∷ after) (note ∷ notes) not h =
-      (((λ is. not (worker_refused (n + 1) book look note.end h.0.sessions (doorway back.0) h.0.fit h.0.ends is)),
-        subst (AllByRecursion (λ (m : SessionNote). m.end ≢ ends.Worn)) (sym h.0.noted) (none_of (n + 1) book look h.0.sessions not h.0.fit)),
-       none_refused book look (n + 1) given after notes not h.1)
+  none_refused book look n (pair ∷ given) (back ∷ after) (note ∷ notes) not h = (
+    (
+      (λ is. not (worker_refused (n + 1) book look note.end h.0.sessions (doorway back.0) h.0.fit h.0.ends is)),
+      subst (AllByRecursion (λ (m : SessionNote). m.end ≢ ends.Worn)) (sym h.0.noted) (none_of (n + 1) book look h.0.sessions not h.0.fit),
+    ),
+    none_refused book look (n + 1) given after notes not h.1,
+  )
 
   pub worn_late : WornLate doorway ringing
   worn_late given after notes book h not = none_refused book (turns_of notes) 0 given after notes not h.each
@@ -73,9 +76,10 @@ module _ {D L : Type 0} (doorway : D → Doorway) (ringing : L → Ringing) wher
   no_fault book look n [] (back ∷ after) notes new none h = absurd h
   no_fault book look n (pair ∷ given) [] notes new none h = absurd h
   no_fault book look n (pair ∷ given) (back ∷ after) [] new none h = absurd h
-  no_fault book look n (pair ∷ given) (back ∷ after) (note ∷ notes) new none h =
-      ((λ is. stays (doorway pair.0).faults (doorway back.0).faults new.0.is_new_door.faults none.0 (h.0.faults.1 is).1),
-       no_fault book look (n + 1) given after notes new.1 none.1 h.1)
+  no_fault book look n (pair ∷ given) (back ∷ after) (note ∷ notes) new none h = (
+    (λ is. stays (doorway pair.0).faults (doorway back.0).faults new.0.is_new_door.faults none.0 (h.0.faults.1 is).1),
+    no_fault book look (n + 1) given after notes new.1 none.1 h.1,
+  )
     where
       stays : (a b : ℕ) → a ≡ 0 → b ≡ 0 → Rose a b → ⊥
       stays a b e f (inl l) = omega (arith, e, f, l)
@@ -107,21 +111,28 @@ module _ {D L : Type 0} (doorway : D → Doorway) (ringing : L → Ringing) wher
               → (status_of served.workers ≡ statuses.Done) ⊎ (status_of served.workers ≡ statuses.Memory)
               → PrintsLast book served.workers served.status middle new → (served.status ≡ statuses.Memory) ⊎ IsWhole words served old new
           printed other book middle f is wrote (inl done) (inl (inl p)) = inr (record {
-            done = p.0 ∙ done; asked = other; form = f; book = book; closed = is; text = writes_both _ _ old middle new wrote p.1;
+            done = p.0 ∙ done;
+            asked = other;
+            form = f;
+            book = book;
+            closed = is;
+            text = writes_both _ _ old middle new wrote p.1;
           })
           printed other book middle f is wrote (inr lack) (inl (inl p)) = inl (p.0 ∙ lack)
           printed other book middle f is wrote s (inl (inr p)) = absurd (out (subst (λ (n : ℕ). Rose n new.faults) wrote.faults p.1.rose))
           printed other book middle f is wrote s (inr p) = inl p.0
+
           before_work : (line : List ℕ) (book : Option (List Entry)) → BeforeWork line served.status old new book → served.status ≡ statuses.Memory
           before_work line _ (not_told is x) = is
           before_work line _ (cut_short is x) = absurd (out x.rose)
           before_work line _ (without_hall is x) = is
           before_work line _ (without_workers is x) = is
+
           pairs : (other : Asked) (given : List (D × L)) → IsForm words other → Gives doorway ringing other given before after → ServesPairs doorway ringing other given served old new
               → (served.status ≡ statuses.Memory) ⊎ IsWhole words served old new
           pairs other given f gives (no_work x y b) = inl (before_work (serving_line other.server) served.book b)
           pairs other given f gives (work book middle is legal h wrote p) =
               printed other book middle f is wrote
-                (no_outside served.workers (no_fault doorway ringing book (turns_of served.workers) 0 given served.doors.items served.workers
-                  (all_each (λ (p : D × L). IsNewPair (doorway p.0) (ringing p.1)) given gives.fresh)
-                  (all_each (λ (p : D × L). (doorway p.0).faults ≡ 0) served.doors.items doors) h.each)) p
+              (no_outside served.workers (no_fault doorway ringing book (turns_of served.workers) 0 given served.doors.items served.workers
+              (all_each (λ (p : D × L). IsNewPair (doorway p.0) (ringing p.1)) given gives.fresh)
+              (all_each (λ (p : D × L). (doorway p.0).faults ≡ 0) served.doors.items doors) h.each)) p

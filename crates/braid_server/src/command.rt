@@ -39,10 +39,7 @@ fn serve_command<'a>(alloc: Global) -> Result<Command<'a>, AllocError>
 }
 
 /// What the command makes of the words.
-pub(crate) fn matches<'a>(
-    alloc: Global,
-    words: &'a [&'a str],
-) -> Result<ArgMatches<'a>, FormFault>
+pub(crate) fn matches<'a>(alloc: Global, words: &'a [&'a str]) -> Result<ArgMatches<'a>, FormFault>
     ensures ok { IfOk result (λ m. HasValues (map (λ w. w.now) words.entry.now) m) }
     ensures no { IsErrOf result FormFault.NoForm → ¬ (AreTaken (map (λ w. w.now) words.entry.now)) }
 {
@@ -68,13 +65,7 @@ pub(crate) fn number_or(text: Option<&str>, default: u32, low: u32, high: u32) -
         return Some(default);
     };
     match text.parse::<u32>() {
-        Ok(n) => {
-            if low <= n && n <= high {
-                Some(n)
-            } else {
-                None
-            }
-        }
+        Ok(n) => { if low <= n && n <= high { Some(n) } else { None } }
         Err(_) => None,
     }
 }

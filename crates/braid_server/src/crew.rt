@@ -14,7 +14,6 @@ use braid_session::{ListSessionNote, ListWorkerNote, WorkerEnd, WorkerNote};
 use braid_store::Book;
 use std::alloc::Global;
 use std::collections::VecDeque;
-use std::marker::Send;
 use std::sync::Wait;
 use std::thread::Threads;
 
@@ -127,8 +126,6 @@ fn run_workers<D: Door, L: Bell, R: Threads + Wait + Sync>(
     root: &Pass<Book>,
     workers: &mut Vec<Worker<D, L>>,
 )
-where
-    D::Link: Send,
     requires away { AreAway hall.now root.now (passes_of workers.old.items) }
     ensures ran { AllZip (RanDoor D.doorway L.ringing) workers.old.items workers.new.items }
     ensures away { AreAway hall.now root.now (passes_of workers.new.items) }
@@ -173,8 +170,6 @@ pub(crate) fn run_crew<D: Door, L: Bell, R: Threads + Wait + Sync>(
     pairs: Vec<(D, L)>,
     count: u32,
 ) -> Crew<D, L>
-where
-    D::Link: Send,
     requires fresh { root ≡ first_pass hall 0 [] }
     requires many { vec_len pairs ≡ count }
     ensures crew { LeavesCrew D.doorway L.ringing pairs.items result.doors.items result.notes result.book }

@@ -17,17 +17,22 @@ use std::test::Fail;
 /// How often a connection looks whether it may go on.
 const LOOKS: u32 = 10_000_000;
 
-const GET_FIRST: &[u8] = b"GET /notes HTTP/1.1\r\n\r\nGET /notes HTTP/1.1\r\nConnection: close\r\n\r\n";
+const GET_FIRST: &[u8] =
+    b"GET /notes HTTP/1.1\r\n\r\nGET /notes HTTP/1.1\r\nConnection: close\r\n\r\n";
 
 const GET_LENGTH: usize = 23;
 
-const PUT: &[u8] = b"PUT /notes HTTP/1.1\r\nVersion: \"ann-1\"\r\nContent-Length: 5\r\nConnection: close\r\n\r\nhello";
+const PUT: &[u8] =
+    b"PUT /notes HTTP/1.1\r\nVersion: \"ann-1\"\r\nContent-Length: 5\r\nConnection: close\r\n\r\nhello";
 
-const ABSENT: &[u8] = b"HTTP/1.1 404 Not Found\r\nContent-Type: text/plain; charset=utf-8\r\nContent-Length: 7\r\n\r\nAbsent\n";
+const ABSENT: &[u8] =
+    b"HTTP/1.1 404 Not Found\r\nContent-Type: text/plain; charset=utf-8\r\nContent-Length: 7\r\n\r\nAbsent\n";
 
-const FOUND: &[u8] = b"HTTP/1.1 200 OK\r\nVersion: \"ann-1\"\r\nMerge-Type: ti-text\r\nContent-Type: text/plain; charset=utf-8\r\nContent-Length: 5\r\nConnection: close\r\n\r\nhello";
+const FOUND: &[u8] =
+    b"HTTP/1.1 200 OK\r\nVersion: \"ann-1\"\r\nMerge-Type: ti-text\r\nContent-Type: text/plain; charset=utf-8\r\nContent-Length: 5\r\nConnection: close\r\n\r\nhello";
 
-const STORED: &[u8] = b"HTTP/1.1 200 OK\r\nVersion: \"ann-1\"\r\nContent-Length: 0\r\nConnection: close\r\n\r\n";
+const STORED: &[u8] =
+    b"HTTP/1.1 200 OK\r\nVersion: \"ann-1\"\r\nContent-Length: 0\r\nConnection: close\r\n\r\n";
 
 /// Whether a flag was set, within so many looks.
 fn was_set(flag: &AtomicBool) -> bool {

@@ -14,7 +14,6 @@ use braid_io::{Asked, Bell, Door, Opened, Port, Sink, Status, write_all};
 use braid_session::ListWorkerNote;
 use braid_store::Book;
 use std::alloc::Global;
-use std::marker::Send;
 use std::sync::Wait;
 use std::thread::Threads;
 
@@ -65,12 +64,7 @@ fn not_begun<D: Door, L: Bell>(
 }
 
 /// Writes the last lines of a run, and answers its status.
-fn print_last<O: Sink>(
-    alloc: Global,
-    book: &Book,
-    notes: &ListWorkerNote,
-    out: &mut O,
-) -> Status
+fn print_last<O: Sink>(alloc: Global, book: &Book, notes: &ListWorkerNote, out: &mut O) -> Status
     ensures legal { IsLegalBook book.now }
     ensures prints { PrintsLast book.now notes.now result (O.outflow out.old) (O.outflow out.new) }
     ensures kept { O.beside_writes out.new ≡ O.beside_writes out.old }
@@ -84,11 +78,7 @@ fn print_last<O: Sink>(
 }
 
 /// What a run leaves, by what its crew left.
-fn finish<D: Door, L: Bell, O: Sink>(
-    alloc: Global,
-    crew: Crew<D, L>,
-    out: &mut O,
-) -> Served<D, L>
+fn finish<D: Door, L: Bell, O: Sink>(alloc: Global, crew: Crew<D, L>, out: &mut O) -> Served<D, L>
     ensures finishes { Finishes crew result (O.outflow out.old) (O.outflow out.new) }
     ensures kept { O.beside_writes out.new ≡ O.beside_writes out.old }
 {
@@ -112,8 +102,6 @@ fn serve_pairs<R: Threads + Wait + Sync, D: Door, L: Bell, O: Sink>(
     pairs: Vec<(D, L)>,
     out: &mut O,
 ) -> Served<D, L>
-where
-    D::Link: Send,
     requires many { vec_len pairs ≡ asked.now.workers }
     ensures serves { ServesPairs D.doorway L.ringing asked.now pairs.items result (O.outflow out.old) (O.outflow out.new) }
     ensures kept { O.beside_writes out.new ≡ O.beside_writes out.old }
@@ -148,8 +136,6 @@ pub fn serve_run<R: Threads + Wait + Sync, P: Port, O: Sink>(
     port: &mut P,
     out: &mut O,
 ) -> Served<P::Door, P::Bell>
-where
-    <P::Door as Door>::Link: Send,
     ensures runs { ServeRuns P.Door.doorway P.Bell.ringing words.now result (P.porting port.old) (P.porting port.new) (O.outflow out.old) (O.outflow out.new) }
     ensures kept { O.beside_writes out.new ≡ O.beside_writes out.old }
 {

@@ -12,10 +12,15 @@ use std::sync::Wait;
 use std::test::Fail;
 use std::thread::Threads;
 
-const CURL_PUT: &[u8] = b"PUT /notes HTTP/1.1\r\nHost: localhost:9000\r\nUser-Agent: curl/8.5.0\r\nAccept: */*\r\nVersion: \"ann-1\"\r\nParents:\r\nContent-Length: 5\r\nContent-Type: application/x-www-form-urlencoded\r\n\r\nhello";
+const CURL_PUT: &[u8] =
+    b"PUT /notes HTTP/1.1\r\nHost: localhost:9000\r\nUser-Agent: curl/8.5.0\r\nAccept: */*\r\nVersion: \"ann-1\"\r\nParents:\r\nContent-Length: 5\r\nContent-Type: application/x-www-form-urlencoded\r\n\r\nhello";
+
 const CURL_STORED: &[u8] = b"HTTP/1.1 200 OK\r\nVersion: \"ann-1\"\r\nContent-Length: 0\r\n\r\n";
+
 const CURL_GET: &[u8] = b"GET /notes HTTP/1.1\r\nHost: localhost:9000\r\nConnection: close\r\n\r\n";
-const CURL_TEXT: &[u8] = b"HTTP/1.1 200 OK\r\nVersion: \"ann-1\"\r\nMerge-Type: ti-text\r\nContent-Type: text/plain; charset=utf-8\r\nContent-Length: 5\r\nConnection: close\r\n\r\nhello";
+
+const CURL_TEXT: &[u8] =
+    b"HTTP/1.1 200 OK\r\nVersion: \"ann-1\"\r\nMerge-Type: ti-text\r\nContent-Type: text/plain; charset=utf-8\r\nContent-Length: 5\r\nConnection: close\r\n\r\nhello";
 
 /// A link that gives these bytes.
 fn link_of(alloc: Global, bytes: &[u8]) -> Result<MemLink, Memory>
@@ -83,7 +88,14 @@ fn run<R: Threads + Wait + Sync>(
     Ok(Left { served, out, port })
 }
 
-const FORM: [&[u8]; 6] = [b"serve", b"127.0.0.1:9000", b"--workers", b"1", b"--take", b"2"];
+const FORM: [&[u8]; 6] = [
+    b"serve",
+    b"127.0.0.1:9000",
+    b"--workers",
+    b"1",
+    b"--take",
+    b"2",
+];
 
 /// Whether the one door has curl's two links with their replies, and the worker its two notes.
 fn served_curl(left: &Left) -> bool {
@@ -98,7 +110,11 @@ fn served_curl(left: &Left) -> bool {
     };
     put.written() == CURL_STORED
         && get.written() == CURL_TEXT
-        && note.sessions.get().iter().all(|session| session.end == SessionEnd::Closed)
+        && note
+            .sessions
+            .get()
+            .iter()
+            .all(|session| session.end == SessionEnd::Closed)
         && (note.pass, note.end) == (1, WorkerEnd::DoorEnd)
         && bell.rings() == 1
 }
@@ -106,8 +122,13 @@ fn served_curl(left: &Left) -> bool {
 #[test]
 fn curl_puts_and_gets(rt: HostRuntime) -> Result<(), Fail> {
     let left = run(&rt, rt.alloc(), &FORM, [&[], &[], &[]])?;
-    let text = left.out.written() == b"serving: 127.0.0.1:9000\nversions: 1\nsessions: 2\n".as_slice();
-    let book = left.served.book.as_ref().is_some_and(|book| book.len() == 1);
+    let text = left.out.written()
+        == b"serving: 127.0.0.1:9000\nversions: 1\nsessions: 2\n".as_slice();
+    let book = left
+        .served
+        .book
+        .as_ref()
+        .is_some_and(|book| book.len() == 1);
     assert!(rt; served_curl(&left) && text && book && left.served.status == Status::Done);
     Ok(())
 }
@@ -137,7 +158,10 @@ fn first_other<R: Threads + Wait + Sync>(
             left.served.doors.len(),
             left.port.asked().len(),
         ];
-        if left.out.written() != row.text || left.served.status != row.status || counts != row.counts {
+        if left.out.written() != row.text
+            || left.served.status != row.status
+            || counts != row.counts
+        {
             return Ok(Some(n));
         }
     }
@@ -188,12 +212,46 @@ fn each_step_that_fails_ends_the_run(rt: HostRuntime) -> Result<(), Fail> {
     };
     let rows = [
         row,
-        Row { words: two, text: b"fault: PortFault\n", status: Status::Outside, counts: [0, 0, 1], ..row },
-        Row { fails: [&[], &[], &[0]], text: b"fault: PortFault\n", status: Status::Outside, counts: [0, 0, 1], ..row },
-        Row { fails: [&[0], &[], &[0]], text: b"", status: Status::Outside, counts: [0, 0, 1], ..row },
-        Row { fails: [&[0], &[], &[]], text: b"", status: Status::Outside, counts: [0, 1, 1], ..row },
-        Row { fails: [&[1], &[], &[]], text: b"serving: h:1\n", status: Status::Outside, ..row },
-        Row { fails: [&[], &[1], &[]], text: b"serving: h:1\nversions: 1\nsessions: 1\n", status: Status::Outside, ..row },
+        Row {
+            words: two,
+            text: b"fault: PortFault\n",
+            status: Status::Outside,
+            counts: [0, 0, 1],
+            ..row
+        },
+        Row {
+            fails: [&[], &[], &[0]],
+            text: b"fault: PortFault\n",
+            status: Status::Outside,
+            counts: [0, 0, 1],
+            ..row
+        },
+        Row {
+            fails: [&[0], &[], &[0]],
+            text: b"",
+            status: Status::Outside,
+            counts: [0, 0, 1],
+            ..row
+        },
+        Row {
+            fails: [&[0], &[], &[]],
+            text: b"",
+            status: Status::Outside,
+            counts: [0, 1, 1],
+            ..row
+        },
+        Row {
+            fails: [&[1], &[], &[]],
+            text: b"serving: h:1\n",
+            status: Status::Outside,
+            ..row
+        },
+        Row {
+            fails: [&[], &[1], &[]],
+            text: b"serving: h:1\nversions: 1\nsessions: 1\n",
+            status: Status::Outside,
+            ..row
+        },
     ];
     let other = first_other(&rt, rt.alloc(), &rows)?;
     assert!(rt; other.is_none());

@@ -9,7 +9,6 @@ use braid_io::{Bell, Door};
 use braid_session::{WorkerNote, serve_door};
 use braid_store::Book;
 use std::alloc::Global;
-use std::marker::Send;
 use std::sync::Wait;
 use std::thread::{Threads, for_each_mut};
 
@@ -45,8 +44,6 @@ pub(crate) fn run_all<D: Door, L: Bell, R: Threads + Wait + Sync>(
     hall: &Hall<Book>,
     workers: &mut [Worker<D, L>],
 )
-where
-    D::Link: Send,
     requires ready { All (λ w. IsReady hall.now w) workers.old }
     ensures ran { AllZip (RanDoor D.doorway L.ringing) workers.old workers.new }
 {

@@ -9,7 +9,7 @@ returns-in_default-clause-no c e =
 pub returns-then-not-is_server-clause-no : goal.returns-then-not-is_server-clause-no
 returns-then-not-is_server-clause-no c e =
     no_address _ c.get_str.result c.in-Some.server (value_is _ c.in_ok-matches.matches _ c.get_str.result c.in_ok-matches.ensures.ok c.get_str.ensures) c.in-Some.is
-      (λ is. search rules)
+    (λ is. search rules)
 
 pub returns-in_default-number_or-clause-no : goal.returns-in_default-number_or-clause-no
 returns-in_default-number_or-clause-no c e =
@@ -22,4 +22,4 @@ returns-in_default-number_or-2-clause-no c e =
 pub returns-clause-ok : goal.returns-clause-ok
 returns-clause-ok c =
     asks_for _ c.in_ok-matches.matches c.get_str.result c.in-Some.server c.get_str-2.result c.get_str-3.result _ c.in_ok-matches.ensures.ok
-      c.get_str.ensures c.in-Some.is (search rules) (search rules) c.get_str-2.ensures c.in-Some-number_or.ensures.some c.get_str-3.ensures c.in-Some-number_or-2.ensures.some
+    c.get_str.ensures c.in-Some.is (search rules) (search rules) c.get_str-2.ensures c.in-Some-number_or.ensures.some c.get_str-3.ensures c.in-Some-number_or-2.ensures.some
