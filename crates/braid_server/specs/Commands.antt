@@ -15,15 +15,28 @@ server_rule = record (new_rule (codes "server")) { required = true }
 
 -- the number of workers, from 1 to 32
 abbrev pub workers_rule : Rule
-workers_rule = record (new_rule (codes "workers")) { long = Some (codes "workers"); parser = Some (parsers.Signed (pos 1) (pos 32)) }
+workers_rule = record (new_rule (codes "workers")) {
+  long = Some (codes "workers");
+  parser = Some (parsers.Signed (pos 1) (pos 32));
+}
 
 -- the number of connections that are taken, from 1 to 1,000,000
 abbrev pub take_rule : Rule
-take_rule = record (new_rule (codes "take")) { long = Some (codes "take"); parser = Some (parsers.Signed (pos 1) (pos 1_000_000)) }
+take_rule = record (new_rule (codes "take")) {
+  long = Some (codes "take");
+  parser = Some (parsers.Signed (pos 1) (pos 1_000_000));
+}
 
 -- a command without arguments, and without flags for help and version
 abbrev pub bare : App
-bare = record { top = record (new_shape (codes "serve")) { no_binary_name = true; disable_help_flag = true; disable_version_flag = true }; subs = [] }
+bare = record {
+  top = record (new_shape (codes "serve")) {
+    no_binary_name = true;
+    disable_help_flag = true;
+    disable_version_flag = true;
+  };
+  subs = [];
+}
 
 -- the command that takes the words after `serve`
 unfoldable pub serve_app : App
@@ -54,8 +67,8 @@ abbrev pub IsNumberOr : ℕ → ℕ → ℕ → Option Text → ℕ → Type 0
 IsNumberOr default low high None n = n ≡ default
 IsNumberOr default low high (Some t) n = IsNumberIn low high t n
 
--- what texts ask for: the command takes them, the server is an address, and the numbers are those given, or 4 workers and
--- 1,000,000 connections
+-- what texts ask for: the command takes them, the server is an address, and the numbers are those given, or 4 workers
+-- and 1,000,000 connections
 pub record AsksFor (texts : List Text) (asked : Asked) : Type 0 where
   pub taken : AreTaken texts
   pub server : value_of (codes "server") texts ≡ Some asked.server

@@ -20,7 +20,8 @@ use Rattle.braid_server.specs.Runs.{ServeRuns}
 -- no worker, and no session of one, was refused a turn
 abbrev pub NoneRefused : List WorkerNote → Type 0
 NoneRefused notes =
-    AllByRecursion (λ (w : WorkerNote). (w.end ≢ worker_ends.Worn) × AllByRecursion (λ (n : SessionNote). n.end ≢ ends.Worn) w.sessions) notes
+    AllByRecursion (λ (w : WorkerNote). (w.end ≢ worker_ends.Worn)
+        × AllByRecursion (λ (n : SessionNote). n.end ≢ ends.Worn) w.sessions) notes
 
 -- where all notes together have fewer than 2^63 marks, none was refused a turn
 abbrev pub WornLate : {D L : Type 0} → (D → Doorway) → (L → Ringing) → Type 0
@@ -41,8 +42,8 @@ pub record IsWhole {D L : Type 0} (words : List (List ℕ)) (served : Served D L
   pub closed : served.book ≡ Some book
   pub text : WritesAll (serving_line asked.server ++ last_lines (length book) (sessions_of served.workers)) old new
 
--- Words of a form are served: where neither port nor doors nor the output failed, the run is Done, with its whole text, or
--- there was no memory.
+-- Words of a form are served: where neither port nor doors nor the output failed, the run is Done, with its whole text,
+-- or there was no memory.
 abbrev pub Completes : {D L : Type 0} → (D → Doorway) → (L → Ringing) → Type 0
 Completes {D} {L} doorway ringing =
     (words : List (List ℕ)) (asked : Asked) (served : Served D L) (before after : Porting) (old new : Outflow)

@@ -26,7 +26,8 @@ with_end ends.Memory Outside = Outside
 with_end ends.Memory Done = Memory
 with_end ends.Memory other = other
 
--- the status of a run whose text was written: Outside where a door failed, else Memory where a worker had none, else Done
+-- the status of a run whose text was written: Outside where a door failed, else Memory where a worker had none, else
+-- Done
 abbrev pub status_of : List WorkerNote → Status
 status_of [] = Done
 status_of (note ∷ notes) = with_end note.end (status_of notes)
@@ -38,7 +39,8 @@ pub record HasNone {D L : Type 0} (served : Served D L) : Type 0 where
   pub doors : served.doors.items ≡ []
 
 -- A port gave new doors and bells, as it was asked to.
-pub record Gives {D L : Type 0} (doorway : D → Doorway) (ringing : L → Ringing) (asked : Asked) (given : List (D × L)) (before after : Porting) : Type 0 where
+pub record Gives {D L : Type 0} (doorway : D → Doorway) (ringing : L → Ringing) (asked : Asked) (given : List (D × L))
+    (before after : Porting) : Type 0 where
   pub many : length given ≡ asked.workers
   pub fresh : All (λ p. IsNewPair (doorway p.0) (ringing p.1)) given
   pub noted : after ≡ record before { asked = with_last before.asked asked }
@@ -50,7 +52,8 @@ pub record FailsToOpen (asked : Asked) (before after : Porting) : Type 0 where
   pub rose : Rose before.faults after.faults
 
 -- How a run ended before its workers began, with its book: the line was not made, for want of memory; it was written in
--- part; it was written, and there was no memory for the hall; or none for passes and workers, and the book has no entry.
+-- part; it was written, and there was no memory for the hall; or none for passes and workers, and the book has no
+-- entry.
 pub data BeforeWork (line : List ℕ) (status : Status) (old new : Outflow) : Option (List Entry) → Type 0 where
   not_told : status ≡ Memory → new ≡ old → BeforeWork line status old new None
   cut_short : status ≡ Outside → WritesPart line old new → BeforeWork line status old new None
@@ -60,32 +63,42 @@ pub data BeforeWork (line : List ℕ) (status : Status) (old new : Outflow) : Op
 -- The last lines were written, under the status that the workers' ends ask for; or there was no memory for them.
 abbrev pub PrintsLast : List Entry → List WorkerNote → Status → Outflow → Outflow → Type 0
 PrintsLast book notes status old new =
-    Prints (last_lines (length book) (sessions_of notes)) (status_of notes) status old new ⊎ ((status ≡ Memory) × (new ≡ old))
+    Prints (last_lines (length book) (sessions_of notes)) (status_of notes) status old new
+    ⊎ ((status ≡ Memory) × (new ≡ old))
 
--- What is left where a port gave these doors and bells: the run ended before its workers began, and they are as they came;
--- or the workers ran, on a book that is legal.
-pub data ServesPairs {D L : Type 0} (doorway : D → Doorway) (ringing : L → Ringing) (asked : Asked) (given : List (D × L)) (served : Served D L) (old new : Outflow) : Type 0 where
-  no_work : served.workers ≡ [] → served.doors.items ≡ given → BeforeWork (serving_line asked.server) served.status old new served.book
+-- What is left where a port gave these doors and bells: the run ended before its workers began, and they are as they
+-- came; or the workers ran, on a book that is legal.
+pub data ServesPairs {D L : Type 0} (doorway : D → Doorway) (ringing : L → Ringing) (asked : Asked) (given : List (D × L))
+    (served : Served D L) (old new : Outflow) : Type 0 where
+  no_work : served.workers ≡ [] → served.doors.items ≡ given
+      → BeforeWork (serving_line asked.server) served.status old new served.book
       → ServesPairs doorway ringing asked given served old new
   work : (book : List Entry) (middle : Outflow) → served.book ≡ Some book → IsLegalBook book
-      → HaveWorked doorway ringing given served.doors.items served.workers book → WritesAll (serving_line asked.server) old middle
+      → HaveWorked doorway ringing given served.doors.items served.workers book
+      → WritesAll (serving_line asked.server) old middle
       → PrintsLast book served.workers served.status middle new → ServesPairs doorway ringing asked given served old new
 
 -- What a run left, by how far it came: its words are no form; there was no memory for the words, or for the port; the
 -- port could not be opened; or it gave doors and bells.
-pub data ServeRuns {D L : Type 0} (doorway : D → Doorway) (ringing : L → Ringing) (words : List (List ℕ)) (served : Served D L) (before after : Porting) (old new : Outflow) : Type 0 where
-  no_form : ((asked : Asked) → ¬ IsForm words asked) → HasNone served → after ≡ before → Prints usage_line Usage served.status old new
+pub data ServeRuns {D L : Type 0} (doorway : D → Doorway) (ringing : L → Ringing) (words : List (List ℕ)) (served : Served D L)
+    (before after : Porting) (old new : Outflow) : Type 0 where
+  no_form : ((asked : Asked) → ¬ IsForm words asked) → HasNone served → after ≡ before
+      → Prints usage_line Usage served.status old new
       → ServeRuns doorway ringing words served before after old new
-  no_memory : HasNone served → served.status ≡ Memory → after ≡ before → new ≡ old → ServeRuns doorway ringing words served before after old new
-  no_port : (asked : Asked) → IsForm words asked → HasNone served → FailsToOpen asked before after → Prints port_fault_line Outside served.status old new
+  no_memory : HasNone served → served.status ≡ Memory → after ≡ before → new ≡ old
+      → ServeRuns doorway ringing words served before after old new
+  no_port : (asked : Asked) → IsForm words asked → HasNone served → FailsToOpen asked before after
+      → Prints port_fault_line Outside served.status old new
       → ServeRuns doorway ringing words served before after old new
   opened : (asked : Asked) (given : List (D × L)) → IsForm words asked → Gives doorway ringing asked given before after
-      → ServesPairs doorway ringing asked given served old new → ServeRuns doorway ringing words served before after old new
+      → ServesPairs doorway ringing asked given served old new
+      → ServeRuns doorway ringing words served before after old new
 
 -- What a run leaves, by what its crew left: the doors as they are, and where no worker ran, no note and status Memory.
 abbrev pub FinishesWith : {D L : Type 0} → Option (List WorkerNote) → Crew D L → Served D L → Outflow → Outflow → Type 0
 FinishesWith None crew served old new = (served.workers ≡ []) × (served.status ≡ Memory) × (new ≡ old)
-FinishesWith (Some notes) crew served old new = (served.workers ≡ notes) × IsLegalBook crew.book × PrintsLast crew.book notes served.status old new
+FinishesWith (Some notes) crew served old new =
+    (served.workers ≡ notes) × IsLegalBook crew.book × PrintsLast crew.book notes served.status old new
 
 pub record Finishes {D L : Type 0} (crew : Crew D L) (served : Served D L) (old new : Outflow) : Type 0 where
   pub book : served.book ≡ Some crew.book

@@ -18,8 +18,10 @@ serving_line server = codes "serving: " ++ server ++ codes "\n"
 
 -- the last lines: how many versions the book has, and how many sessions there were
 abbrev pub last_lines : ℕ → ℕ → List ℕ
-last_lines versions sessions = codes "versions: " ++ decimal versions ++ codes "\nsessions: " ++ decimal sessions ++ codes "\n"
+last_lines versions sessions =
+    codes "versions: " ++ decimal versions ++ codes "\nsessions: " ++ decimal sessions ++ codes "\n"
 
 -- a text was written whole, under its own status; or a front of it, under status Outside, where a write failed
 abbrev pub Prints : List ℕ → Status → Status → Outflow → Outflow → Type 0
-Prints text own status old new = ((status ≡ own) × WritesAll text old new) ⊎ ((status ≡ Outside) × WritesPart text old new)
+Prints text own status old new =
+    ((status ≡ own) × WritesAll text old new) ⊎ ((status ≡ Outside) × WritesPart text old new)

@@ -23,7 +23,8 @@ IsReady hall w = (w.pass.hall ≡ hall) × (w.pass.held ≡ false)
 
 -- a worker ran: it served its door
 abbrev pub RanDoor : {D L : Type 0} → (D → Doorway) → (L → Ringing) → Worker D L → Worker D L → Type 0
-RanDoor doorway ringing v w = ServesDoor serving_now w.note v.pass w.pass (doorway v.door) (doorway w.door) (ringing v.bell) (ringing w.bell)
+RanDoor doorway ringing v w =
+    ServesDoor serving_now w.note v.pass w.pass (doorway v.door) (doorway w.door) (ringing v.bell) (ringing w.bell)
 
 -- the doors and bells of workers
 abbrev pub pairs_of : {D L : Type 0} → List (Worker D L) → List (D × L)
@@ -52,10 +53,11 @@ turns_of notes = total (λ (w : WorkerNote). total (λ (n : SessionNote). length
 abbrev pub sessions_of : List WorkerNote → ℕ
 sessions_of notes = total (λ (w : WorkerNote). length w.sessions) notes
 
--- One worker of a run, by its number, on the book that was closed; no look was above `look`: each of its sessions fits that
--- book; the book's entries of its number are just those of its sessions, in order; its marks never fall; its door put back
--- all links that it gave; its bell was rung for each entry; and its end has its cause.
-pub record WorksOn (book : List Entry) (look number : ℕ) (note : WorkerNote) (before after : Doorway) (bell rung : Ringing) : Type 0 where
+-- One worker of a run, by its number, on the book that was closed; no look was above `look`: each of its sessions fits
+-- that book; the book's entries of its number are just those of its sessions, in order; its marks never fall; its door
+-- put back all links that it gave; its bell was rung for each entry; and its end has its cause.
+pub record WorksOn (book : List Entry) (look number : ℕ) (note : WorkerNote) (before after : Doorway)
+    (bell rung : Ringing) : Type 0 where
   pub sessions : List Session
   pub pass : note.pass ≡ number
   pub noted : note.sessions ≡ notes_of sessions
@@ -69,7 +71,8 @@ pub record WorksOn (book : List Entry) (look number : ℕ) (note : WorkerNote) (
 
 -- The workers of a run, numbered on from the number after n: each with its note, and with its door and bell before and
 -- after.
-abbrev pub WorkOn : {D L : Type 0} → (D → Doorway) → (L → Ringing) → List Entry → ℕ → ℕ → List (D × L) → List (D × L) → List WorkerNote → Type 0
+abbrev pub WorkOn : {D L : Type 0} → (D → Doorway) → (L → Ringing) → List Entry → ℕ → ℕ → List (D × L) → List (D × L)
+    → List WorkerNote → Type 0
 WorkOn doorway ringing book look n [] [] [] = Unit {0}
 WorkOn doorway ringing book look n [] [] (note ∷ notes) = ⊥
 WorkOn doorway ringing book look n [] (pair ∷ after) notes = ⊥
@@ -79,13 +82,15 @@ WorkOn doorway ringing book look n (pair ∷ given) (back ∷ after) (note ∷ n
     WorksOn book look (n + 1) note (doorway pair.0) (doorway back.0) (ringing pair.1) (ringing back.1)
     × WorkOn doorway ringing book look (n + 1) given after notes
 
--- What workers left that ran beside one another, and the book that was then closed: each entry of it has the number of one
--- of them. No look was above the number of marks of all notes.
-pub record HaveWorked {D L : Type 0} (doorway : D → Doorway) (ringing : L → Ringing) (given after : List (D × L)) (notes : List WorkerNote) (book : List Entry) : Type 0 where
+-- What workers left that ran beside one another, and the book that was then closed: each entry of it has the number of
+-- one of them. No look was above the number of marks of all notes.
+pub record HaveWorked {D L : Type 0} (doorway : D → Doorway) (ringing : L → Ringing) (given after : List (D × L))
+    (notes : List WorkerNote) (book : List Entry) : Type 0 where
   pub each : WorkOn doorway ringing book (turns_of notes) 0 given after notes
   pub numbers : AllByRecursion (λ (e : Entry). (0 < e.by) × (e.by ≤ length notes)) book
 
 -- what is left of a crew: its workers ran; or none did, the doors and bells are as they came, and the book has no entry
-abbrev pub LeavesCrew : {D L : Type 0} → (D → Doorway) → (L → Ringing) → List (D × L) → List (D × L) → Option (List WorkerNote) → List Entry → Type 0
+abbrev pub LeavesCrew : {D L : Type 0} → (D → Doorway) → (L → Ringing) → List (D × L) → List (D × L)
+    → Option (List WorkerNote) → List Entry → Type 0
 LeavesCrew doorway ringing given after None book = (after ≡ given) × (book ≡ [])
 LeavesCrew doorway ringing given after (Some notes) book = HaveWorked doorway ringing given after notes book

@@ -59,7 +59,8 @@ pub(crate) fn matches<'a>(alloc: Global, words: &'a [&'a str]) -> Result<ArgMatc
 /// The number that a text is, within its range, or the default where there is no text.
 pub(crate) fn number_or(text: Option<&str>, default: u32, low: u32, high: u32) -> Option<u32>
     ensures some { IfSome result (IsNumberOr default low high (option_map (λ t. t.now) text.entry)) }
-    ensures none { result ≡ None → (n : ℕ) → n < 2 ^ 32 → ¬ (IsNumberOr default low high (option_map (λ t. t.now) text.entry) n) }
+    ensures none { result ≡ None → (n : ℕ) → n < 2 ^ 32
+        → ¬ (IsNumberOr default low high (option_map (λ t. t.now) text.entry) n) }
 {
     let Some(text) = text else {
         return Some(default);

@@ -39,7 +39,8 @@ fn texts_of<'a>(alloc: Global, words: &'a [Word]) -> Result<Vec<&'a str>, FormFa
 /// What texts ask for.
 fn asked_of(alloc: Global, texts: &[&str]) -> Result<Asked, FormFault>
     ensures ok { IfOk result (λ asked. AsksFor (map (λ t. t.now) texts.entry.now) asked) }
-    ensures no { IsErrOf result FormFault.NoForm → (asked : Asked) → ¬ (AsksFor (map (λ t. t.now) texts.entry.now) asked) }
+    ensures no { IsErrOf result FormFault.NoForm → (asked : Asked)
+        → ¬ (AsksFor (map (λ t. t.now) texts.entry.now) asked) }
 {
     let matches = matches(alloc, texts)?;
     let Some(server) = matches.get_str("server") else {

@@ -7,7 +7,8 @@
 //! Promised, for every interleaving of threads: one legal book explains each reply of each session, and its entries are
 //! just those of the sessions. Each link that came was put back and has its note, and each door comes back.
 //!
-//! Not promised: that a run ends, that a connection is answered, that two threads ran at once, or how long anything takes.
+//! Not promised: that a run ends, that a connection is answered, that two threads ran at once, or how long anything
+//! takes.
 #![tactic(auto)]
 
 mod command;

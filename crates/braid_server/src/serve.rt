@@ -103,7 +103,8 @@ fn serve_pairs<R: Threads + Wait + Sync, D: Door, L: Bell, O: Sink>(
     out: &mut O,
 ) -> Served<D, L>
     requires many { vec_len pairs ≡ asked.now.workers }
-    ensures serves { ServesPairs D.doorway L.ringing asked.now pairs.items result (O.outflow out.old) (O.outflow out.new) }
+    ensures serves { ServesPairs D.doorway L.ringing asked.now pairs.items result
+        (O.outflow out.old) (O.outflow out.new) }
     ensures kept { O.beside_writes out.new ≡ O.beside_writes out.old }
 {
     let Ok(line) = serving_line(alloc, asked.server.get()) else {
@@ -123,12 +124,12 @@ fn serve_pairs<R: Threads + Wait + Sync, D: Door, L: Bell, O: Sink>(
 /// its doors, each door by one worker, with one history for all of them. It may run until it is stopped from outside.
 ///
 /// The words are `serve`, the address, and the options `--workers` (1 to 32, or 4) and `--take` (1 to 1,000,000, or
-/// that many): the number of connections that all doors take together. At the end it prints `versions: N`, the length of
-/// the book, and `sessions: N`, the number of sessions. Other words print `fault: Usage`, and a port that cannot be
+/// that many): the number of connections that all doors take together. At the end it prints `versions: N`, the length
+/// of the book, and `sessions: N`, the number of sessions. Other words print `fault: Usage`, and a port that cannot be
 /// opened `fault: PortFault`.
 ///
-/// The status: Done where all was printed and no door failed; Usage for other words; Outside where the port, a door or a
-/// write failed; Memory where there was none. How a session ends does not change it.
+/// The status: Done where all was printed and no door failed; Usage for other words; Outside where the port, a door or
+/// a write failed; Memory where there was none. How a session ends does not change it.
 pub fn serve_run<R: Threads + Wait + Sync, P: Port, O: Sink>(
     alloc: Global,
     rt: &R,
@@ -136,7 +137,8 @@ pub fn serve_run<R: Threads + Wait + Sync, P: Port, O: Sink>(
     port: &mut P,
     out: &mut O,
 ) -> Served<P::Door, P::Bell>
-    ensures runs { ServeRuns P.Door.doorway P.Bell.ringing words.now result (P.porting port.old) (P.porting port.new) (O.outflow out.old) (O.outflow out.new) }
+    ensures runs { ServeRuns P.Door.doorway P.Bell.ringing words.now result (P.porting port.old) (P.porting port.new)
+        (O.outflow out.old) (O.outflow out.new) }
     ensures kept { O.beside_writes out.new ≡ O.beside_writes out.old }
 {
     let asked = match read_form(alloc, words) {

@@ -257,3 +257,54 @@ fn each_step_that_fails_ends_the_run(rt: HostRuntime) -> Result<(), Fail> {
     assert!(rt; other.is_none());
     Ok(())
 }
+
+/// Words, and what a port is asked for by them.
+#[derive(Clone, Copy)]
+struct Asking {
+    words: &'static [&'static [u8]],
+    workers: u32,
+    take: u32,
+}
+
+/// The first words by which a port is asked for something else, or at another address than `h:1`.
+fn first_misread<R: Threads + Wait + Sync>(
+    rt: &R,
+    alloc: Global,
+    askings: &[Asking],
+) -> Result<Option<usize>, Memory> {
+    for (n, asking) in askings.iter().enumerate() {
+        let left = run(rt, alloc, asking.words, [&[], &[], &[0]])?;
+        let asked = left.port.asked().first().is_some_and(|asked| {
+            asked.server.get() == b"h:1".as_slice()
+                && asked.workers == asking.workers
+                && asked.take == asking.take
+        });
+        if !asked {
+            return Ok(Some(n));
+        }
+    }
+    Ok(None)
+}
+
+/// Words that ask for so many workers and connections.
+const fn asking(words: &'static [&'static [u8]], workers: u32, take: u32) -> Asking {
+    Asking {
+        words,
+        workers,
+        take,
+    }
+}
+
+#[test]
+fn a_port_is_asked_for_what_words_say(rt: HostRuntime) -> Result<(), Fail> {
+    let askings = [
+        asking(&[b"serve", b"h:1"], 4, 1_000_000),
+        asking(&[b"serve", b"h:1", b"--take", b"1"], 4, 1),
+        asking(&[b"serve", b"--workers=32", b"h:1"], 32, 1_000_000),
+        asking(&[b"serve", b"h:1", b"--take=007", b"--workers", b"+1"], 1, 7),
+        asking(&[b"serve", b"--", b"h:1"], 4, 1_000_000),
+    ];
+    let other = first_misread(&rt, rt.alloc(), &askings)?;
+    assert!(rt; other.is_none());
+    Ok(())
+}
