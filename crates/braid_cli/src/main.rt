@@ -1,16 +1,19 @@
-//! The program `braid`: carries out the command that its words are, over standard input and output.
+//! The program `braid`: carries out the command that its words are, over standard input and output and the system's
+//! sockets.
 //!
-//! `run` is the top call. Its contract says, for any source and any sink, what is printed and with which status, as a
-//! function of the bytes that the source gave. `exit_code` takes the words, or why they were not read, and answers the
-//! exit status as a number. `main` hands it standard input and standard output, and ends with that number.
+//! `run` is the top call. Its contract says, for any source, sink and port, what is printed and with which status: of
+//! `check` as a function of the bytes that the source gave, of `serve` with what its connections read, wrote and left.
+//! `exit_code` takes the words, or why they were not read, and answers the exit status as a number. `main` hands it
+//! standard input, standard output and a port, and ends with that number.
 //!
-//! Not promised: what a terminal, a pipe or a file behind standard input and output holds.
+//! Not promised: what a terminal, a pipe or a file behind standard input and output holds, and what a socket does.
 #![tactic(auto)]
 
 mod commands;
 mod words;
 
 use braid_io::{StdSink, StdSource};
+use braid_net::TcpPort;
 use commands::exit_code;
 use std::process::ExitCode;
 use words::read_words;
@@ -20,8 +23,18 @@ fn main(rt: HostRuntime) -> ExitCode {
         StdSource::new(rt.reader()),
         StdSink::new(std::io::writer(&rt)),
     );
-    ExitCode::from(exit_code(rt.alloc(), read_words(&rt), &mut source, &mut out))
+    let mut port = TcpPort::new(rt);
+    ExitCode::from(exit_code(
+        rt.alloc(),
+        &rt,
+        read_words(&rt),
+        &mut source,
+        &mut out,
+        &mut port,
+    ))
 }
 
+#[cfg(test)]
+mod loopback_test;
 #[cfg(test)]
 mod tests;
