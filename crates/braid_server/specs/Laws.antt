@@ -21,7 +21,7 @@ use Rattle.braid_server.specs.Runs.{ServeRuns}
 abbrev pub NoneRefused : List WorkerNote → Type 0
 NoneRefused notes =
     AllByRecursion (λ (w : WorkerNote). (w.end ≢ worker_ends.Worn)
-        × AllByRecursion (λ (n : SessionNote). n.end ≢ ends.Worn) w.sessions) notes
+    × AllByRecursion (λ (n : SessionNote). n.end ≢ ends.Worn) w.sessions) notes
 
 -- where all notes together have fewer than 2^63 marks, none was refused a turn
 abbrev pub WornLate : {D L : Type 0} → (D → Doorway) → (L → Ringing) → Type 0

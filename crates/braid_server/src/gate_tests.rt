@@ -1,7 +1,6 @@
 //! Two workers beside one another: each of two connections waits for a reply of the other.
 
 ghost use Rattle.std.specs.Prelude.{◌≡◌};
-ghost use Rattle.braid_io.specs.Outside.{next_count};
 
 use crate::serve_run;
 use crate::tests::words_of;
@@ -196,25 +195,16 @@ impl Port for GatePort {
             return Opened::Memory;
         };
         if workers != 2 {
-            return self.fail();
+            self.faults = self.faults.saturating_add(1);
+            return Opened::Failed;
         }
         let Some((front, back)) = self.plans.take() else {
-            return self.fail();
+            self.faults = self.faults.saturating_add(1);
+            return Opened::Failed;
         };
         pairs.push_reserved(pair_of(alloc, front));
         pairs.push_reserved(pair_of(alloc, back));
         Opened::Up(pairs)
-    }
-}
-
-impl GatePort {
-    /// An opening that fails.
-    fn fail(&mut self) -> Opened<GateDoor, MemBell>
-        ensures failed { result ≡ Opened.Failed }
-        ensures counted { self.new.faults ≡ next_count self.old.faults }
-    {
-        self.faults = self.faults.saturating_add(1);
-        Opened::Failed
     }
 }
 

@@ -287,7 +287,7 @@ fn first_misread<R: Threads + Wait + Sync>(
 }
 
 /// Words that ask for so many workers and connections.
-const fn asking(words: &'static [&'static [u8]], workers: u32, take: u32) -> Asking {
+const fn asking_for(words: &'static [&'static [u8]], workers: u32, take: u32) -> Asking {
     Asking {
         words,
         workers,
@@ -298,11 +298,15 @@ const fn asking(words: &'static [&'static [u8]], workers: u32, take: u32) -> Ask
 #[test]
 fn a_port_is_asked_for_what_words_say(rt: HostRuntime) -> Result<(), Fail> {
     let askings = [
-        asking(&[b"serve", b"h:1"], 4, 1_000_000),
-        asking(&[b"serve", b"h:1", b"--take", b"1"], 4, 1),
-        asking(&[b"serve", b"--workers=32", b"h:1"], 32, 1_000_000),
-        asking(&[b"serve", b"h:1", b"--take=007", b"--workers", b"+1"], 1, 7),
-        asking(&[b"serve", b"--", b"h:1"], 4, 1_000_000),
+        asking_for(&[b"serve", b"h:1"], 4, 1_000_000),
+        asking_for(&[b"serve", b"h:1", b"--take", b"1"], 4, 1),
+        asking_for(&[b"serve", b"--workers=32", b"h:1"], 32, 1_000_000),
+        asking_for(
+            &[b"serve", b"h:1", b"--take=007", b"--workers", b"+1"],
+            1,
+            7,
+        ),
+        asking_for(&[b"serve", b"--", b"h:1"], 4, 1_000_000),
     ];
     let other = first_misread(&rt, rt.alloc(), &askings)?;
     assert!(rt; other.is_none());
