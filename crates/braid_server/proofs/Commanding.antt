@@ -1,9 +1,8 @@
 -- The command of `serve` is one of which clap's words say all.
-use Rattle.std.proofs.Common.{◌≡◌, ◌≢◌, ℕ, ◌<◌, ◌≤◌, ◌^◌, arith, refl, sym, true, ap, subst, codes, option_map, Option, Some, None, Bor, List, [], ◌∷◌, inl, inr, ◌∙◌, Result, Ok, Err, IfOk}
+use Rattle.std.proofs.Common.{◌≡◌, ◌≢◌, ℕ, ◌<◌, ◌^◌, arith, refl, sym, true, ap, subst, codes, option_map, Option, Some, None, Bor, List, [], ◌∷◌, inl, inr, ◌∙◌, Result, Ok, Err, IfOk}
 use Rattle.std.specs.Prelude.{IsUtf8}
 use Rattle.std.specs.List.{AllByRecursion}
-use Rattle.clap.specs.Words.{App, Text, Kinds, app_of, is_simple, is_simple_and_free, fault_of, HasMatchesOf, HasKind, kind_of, rows_of, found_of, matches_of, first_of, first_value}
-use Rattle.clap.specs.declared.builder.command.Command.{Command}
+use Rattle.clap.specs.Words.{App, Text, Kinds, is_simple, is_simple_and_free, fault_of, HasMatchesOf, HasKind, kind_of, found_of, first_of, first_value}
 use Rattle.clap.specs.declared.error.Error.{Error}
 use Rattle.clap.specs.declared.error.kind.ErrorKind.TheVariants as kind
 use Rattle.clap.specs.declared.parser.matches.ArgMatches.{ArgMatches}
@@ -11,7 +10,7 @@ use Rattle.clap.proofs.OnLiterals.{clap_on_literals}
 use Rattle.clap.proofs.WalkLemmas.{first_value-rows}
 use Rattle.braid_io.specs.declared.port.Asked.{Asked}
 use Rattle.braid_fields.specs.Places.{IsServer}
-use Rattle.braid_server.specs.Commands.{serve_app, HasValues, AreTaken, value_of, IsNumberIn, IsNumberOr, AsksFor, IsForm}
+use Rattle.braid_server.specs.Commands.{serve_app, HasValues, AreTaken, value_of, IsNumberOr, AsksFor, IsForm}
 use Rattle.braid_server.specs.declared.command.FormFault.{FormFault}
 
 pub serve_is_simple : is_simple serve_app ≡ true

@@ -1,12 +1,10 @@
 -- How a run ends.
-use Rattle.std.proofs.Common.{◌≡◌, ℕ, List, [], ◌∷◌, ◌++◌, ◌⊎◌, inl, inr, refl, ap, sym, ◌∙◌, subst, length, Option, Some, None}
-use Rattle.std.specs.Prelude.{All}
-use Rattle.braid_io.specs.Outside.{Outflow, WritesAll, WritesPart, with_last}
+use Rattle.std.proofs.Common.{◌≡◌, ℕ, List, [], inl, ap, sym, ◌∙◌, subst, length, Option, Some, None}
+use Rattle.braid_io.specs.Outside.{Outflow, WritesAll}
 use Rattle.braid_io.specs.Bells.{Ringing}
-use Rattle.braid_io.specs.Doors.{Doorway, Porting, IsNewPair}
+use Rattle.braid_io.specs.Doors.{Doorway}
 use Rattle.braid_io.specs.declared.port.Asked.{Asked}
 use Rattle.braid_io.specs.declared.status.Status.{Status}
-use Rattle.braid_io.specs.declared.status.Status.TheVariants.{Memory}
 use Rattle.braid_store.specs.declared.entry.Entry.{Entry}
 use Rattle.braid_session.specs.declared.worker.WorkerNote.{WorkerNote}
 use Rattle.braid_server.specs.declared.serve.Served.{Served}

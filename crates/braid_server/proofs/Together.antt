@@ -1,6 +1,6 @@
 -- What workers left that ran beside one another, once their passes were joined and the hall was closed.
-use Rattle.std.proofs.Common.{◌≡◌, ℕ, zero, suc, ◌+◌, ◌<◌, ◌≤◌, ◌==◌, Bool, true, false, List, [], ◌∷◌, ◌++◌, refl, ap, sym, ◌∙◌, subst, length, map, arith, length-append}
-use Rattle.std.specs.Prelude.{All, Contains, filter}
+use Rattle.std.proofs.Common.{◌≡◌, ℕ, zero, suc, ◌+◌, ◌<◌, ◌≤◌, ◌==◌, false, List, [], ◌∷◌, ◌++◌, refl, ap, sym, ◌∙◌, subst, length, arith, length-append}
+use Rattle.std.specs.Prelude.{All, Contains}
 use Rattle.std.specs.List.{AllByRecursion, AllZip}
 use Rattle.std.proofs.lemmas.List.{length-map}
 use Rattle.std.proofs.lemmas.List.Elements.{length_all_zip}
@@ -18,7 +18,7 @@ use Rattle.braid_session.specs.declared.worker.WorkerNote.{WorkerNote}
 use Rattle.braid_session.specs.Sessions.{Placed, entries_of}
 use Rattle.braid_session.specs.Ends.{AreFound, none_found, passed_by, added_to}
 use Rattle.braid_session.specs.Orders.{serving_now}
-use Rattle.braid_session.specs.Doors.{Session, FitsVisit, notes_of, marks_of, added_of}
+use Rattle.braid_session.specs.Doors.{Session, FitsVisit, marks_of, added_of}
 use Rattle.braid_session.proofs.Lasting.{fits_later}
 use Rattle.braid_server.specs.declared.worker.Worker.{Worker}
 use Rattle.braid_server.specs.Workers.{IsReady, RanDoor, pairs_of, passes_of, worker_notes, turns_of, WorksOn, WorkOn, HaveWorked}

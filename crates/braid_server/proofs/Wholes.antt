@@ -1,10 +1,9 @@
 -- When a run is whole, and when a session is refused a turn.
-use Rattle.std.proofs.Common.{◌≡◌, ◌≢◌, ℕ, ◌+◌, ◌<◌, ◌≤◌, suc, List, [], ◌∷◌, ◌++◌, ◌⊎◌, inl, inr, refl, ap, sym, ◌∙◌, subst, length, map, Some, None, Option, arith}
-use Rattle.std.specs.Prelude.{All}
+use Rattle.std.proofs.Common.{◌≡◌, ◌≢◌, ℕ, ◌+◌, ◌≤◌, List, [], ◌∷◌, ◌++◌, ◌⊎◌, inl, inr, refl, ap, sym, ◌∙◌, subst, map, Some, Option, arith}
 use Rattle.std.specs.List.{AllByRecursion}
-use Rattle.braid_io.specs.Outside.{Outflow, Rose, WritesAll, WritesPart}
+use Rattle.braid_io.specs.Outside.{Outflow, Rose, WritesAll}
 use Rattle.braid_io.specs.Bells.{Ringing}
-use Rattle.braid_io.specs.Doors.{Doorway, Porting, IsNewPair}
+use Rattle.braid_io.specs.Doors.{Doorway, IsNewPair}
 use Rattle.braid_io.specs.declared.port.Asked.{Asked}
 use Rattle.braid_io.specs.declared.status.Status.{Status}
 use Rattle.braid_io.specs.declared.status.Status.TheVariants as statuses
@@ -18,12 +17,11 @@ use Rattle.braid_session.specs.Ends.{Ends}
 use Rattle.braid_session.specs.Orders.{serving_now}
 use Rattle.braid_session.specs.Doors.{Session, FitsVisit, EndsWorker}
 use Rattle.braid_session.proofs.Goings.{writes_both}
-use Rattle.braid_server.specs.declared.serve.Served.{Served}
 use Rattle.braid_server.specs.Commands.{IsForm}
-use Rattle.braid_server.specs.Workers.{WorkOn, WorksOn, HaveWorked, turns_of}
-use Rattle.braid_server.specs.Texts.{serving_line, last_lines, Prints}
+use Rattle.braid_server.specs.Workers.{WorkOn, turns_of}
+use Rattle.braid_server.specs.Texts.{serving_line}
 use Rattle.braid_server.specs.Runs.{PrintsLast, BeforeWork, not_told, cut_short, without_hall, without_workers, ServesPairs, no_work, work, ServeRuns, no_form, no_memory, no_port, opened, Gives, status_of, with_end}
-use Rattle.braid_server.specs.Laws.{NoneRefused, WornLate, NoDoorFailed, IsWhole, Completes}
+use Rattle.braid_server.specs.Laws.{NoneRefused, WornLate, IsWhole, Completes}
 use Rattle.braid_server.proofs.Lists.{all_each}
 
 -- a session that was refused a turn looked at a late ticket

@@ -7,7 +7,6 @@ use Rattle.braid_io.specs.Doors.{Doorway}
 use Rattle.braid_hall.specs.Passes.{PassView}
 use Rattle.braid_hall.specs.Views.{total}
 use Rattle.braid_store.specs.declared.entry.Entry.{Entry}
-use Rattle.braid_session.specs.declared.serving.Serving.{Serving}
 use Rattle.braid_session.specs.declared.session.SessionNote.{SessionNote}
 use Rattle.braid_session.specs.declared.worker.WorkerNote.{WorkerNote}
 use Rattle.braid_session.specs.Sessions.{entries_of}

@@ -1,5 +1,4 @@
-use Rattle.std.proofs.Common.{rules, ◌≡◌, map, sym, ap, ◌∙◌}
-use Rattle.clap.specs.Words.{app_of}
+use Rattle.std.proofs.Common.{rules}
 use Rattle.braid_server.proofs.Commanding.{free_of, values_for, refused_for}
 use Rattle.braid_server.proofs.command.matches.Goals as goal
 use Rattle.braid_server.proofs.command.matches.Goals.{then-eq, else-eq}

@@ -1,7 +1,6 @@
-use Rattle.std.proofs.Common.{rules, ap, ap₂, refl, sym, codes, true, ◌≡◌, ◌∙◌}
-use Rattle.std.specs.Prelude.{Some, pos}
-use Rattle.clap.specs.Words.{App, Rule, app_of, rule_of, with_rule}
-use Rattle.clap.specs.declared.builder.value_parser.ValueParser.{ValueParser}
+use Rattle.std.proofs.Common.{rules, ap₂, ◌≡◌, ◌∙◌}
+use Rattle.std.specs.Prelude.{pos}
+use Rattle.clap.specs.Words.{app_of, rule_of, with_rule}
 use Rattle.clap.specs.declared.builder.value_parser.ValueParser.TheVariants as vp
 use Rattle.braid_server.specs.Commands.{serve_app, bare, server_rule, workers_rule, take_rule}
 use Rattle.braid_server.proofs.command.serve_command.Goals as goal

@@ -1,4 +1,4 @@
-use Rattle.std.proofs.Common.{rules, ◌++◌, ◌∷◌, [], length, length-append, arith}
+use Rattle.std.proofs.Common.{rules, ◌++◌, ◌∷◌, [], length-append, arith}
 use Rattle.braid_server.proofs.Lists.{taken_more, mapped_last}
 use Rattle.braid_server.proofs.crew.part.Goals as goal
 

@@ -1,4 +1,4 @@
-use Rattle.std.proofs.Common.{rules, refl, sym, subst, List, ◌∙◌}
+use Rattle.std.proofs.Common.{refl, sym, subst, List, ◌∙◌}
 use Rattle.braid_hall.specs.Passes.{PassView}
 use Rattle.braid_hall.specs.Many.{AreAway}
 use Rattle.braid_store.specs.declared.entry.Entry.{Entry}

@@ -1,4 +1,3 @@
-use Rattle.std.proofs.Common.{rules}
 use Rattle.braid_server.proofs.Wholes.{completes}
 use Rattle.braid_server.proofs.laws.completes.Goals as goal
 

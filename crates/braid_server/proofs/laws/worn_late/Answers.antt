@@ -1,8 +1,4 @@
-use Rattle.std.proofs.Common.{rules}
 use Rattle.braid_server.proofs.Wholes.{worn_late}
-use Rattle.braid_server.proofs.Together.{have_worked}
-use Rattle.braid_server.proofs.Ending.{pairs_served}
-use Rattle.braid_server.proofs.Lists.{whole_front}
 use Rattle.braid_server.proofs.laws.worn_late.Goals as goal
 
 pub returns : goal.returns

@@ -1,4 +1,4 @@
-use Rattle.std.proofs.Common.{rules, ap, length, arith}
+use Rattle.std.proofs.Common.{ap, length, arith}
 use Rattle.braid_server.proofs.Counting.{sessions_more}
 use Rattle.braid_server.proofs.print.sessions_of.Goals as goal
 

@@ -1,4 +1,3 @@
-use Rattle.std.proofs.Common.{rules}
 use Rattle.braid_server.proofs.Ending.{prints_last}
 use Rattle.braid_server.proofs.serve.print_last.Goals as goal
 

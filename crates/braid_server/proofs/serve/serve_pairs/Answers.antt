@@ -1,4 +1,4 @@
-use Rattle.std.proofs.Common.{rules, ℕ, List, None, refl, subst, ap, ◌∙◌}
+use Rattle.std.proofs.Common.{ℕ, List, None, refl, subst, ap, ◌∙◌}
 use Rattle.braid_io.specs.Outside.{WritesAll, WritesPart}
 use Rattle.braid_server.specs.Texts.{serving_line}
 use Rattle.braid_server.specs.Runs.{not_told, cut_short, without_hall}

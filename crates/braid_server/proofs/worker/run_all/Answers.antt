@@ -1,4 +1,4 @@
-use Rattle.std.proofs.Common.{rules, List}
+use Rattle.std.proofs.Common.{rules}
 use Rattle.braid_server.specs.Workers.{RanDoor}
 use Rattle.braid_server.proofs.Lists.{zip_each}
 use Rattle.braid_server.proofs.worker.run_all.Goals as goal
