@@ -1,9 +1,8 @@
 -- Which command the first word picks, and what is left of it.
-use Rattle.std.specs.Prelude.{◌≡◌, ℕ, List, [], ◌∷◌, codes, Option, Some, None}
+use Rattle.std.specs.Prelude.{◌≡◌, ℕ, List, [], ◌∷◌, codes, Some, None}
 use Rattle.braid_io.specs.Outside.{Intake, Outflow}
 use Rattle.braid_io.specs.Bells.{Ringing}
 use Rattle.braid_io.specs.Doors.{Doorway, Porting}
-use Rattle.braid_io.specs.declared.status.Status.{Status}
 use Rattle.braid_check.specs.Runs.{Runs, Succeeds}
 use Rattle.braid_server.specs.declared.serve.Served.{Served}
 use Rattle.braid_server.specs.Runs.{ServeRuns}
