@@ -20,7 +20,7 @@ use Rattle.braid_http.specs.Bodies.{IsBody, IsInChunk, IsBehindChunk, HasCome, i
 use Rattle.braid_http.specs.BodySteps.{IsAround, Passes}
 use Rattle.braid_http.specs.declared.around.Passed.{Passed}
 use Rattle.braid_http.specs.declared.around.Passed.TheVariants as passes
-use Rattle.braid_http.specs.BodyReads.{IsIn, IsAt, HasRead, HasReadIn, Tells, IsOver, Stops, ReadsBody, room, failed_at, PassedAs, Ends, Takes, at_place}
+use Rattle.braid_http.specs.BodyReads.{IsIn, IsAt, HasRead, HasReadIn, Tells, IsOver, Stops, GoesOn, ReadsBody, room, failed_at, PassedAs, Ends, Takes, at_place}
 use Rattle.braid_http.specs.Draws.{Draws, DrawsToEnd, DrawsAndFails}
 use Rattle.braid_http.proofs.BodySteps.{draws_both, draws_end, draws_fail, trailing_last}
 
@@ -116,6 +116,18 @@ got_data (Chunk left) n old new content b u l w i (inr t) =
     read_as (at_place Open (In (Chunk (left - n))) old) new (content ++ u) (b ++ u) t.1
     (i.0, i.1, (let k = t.0 in omega (arith, k)), chunk_more left n content b u l w i.3)
 
+-- and the body goes on, or is one of a length and whole
+
+goes_as : (old new : Body) → new ≡ old → GoesOn old.state old.kind → GoesOn new.state new.kind
+goes_as old new e g = subst (λ (z : Body). GoesOn z.state z.kind) (sym e) g
+
+pub got_on : (next : Content) (n : ℕ) (old new : Body) (content b : List ℕ) → IsIn old.kind next old.line content b → Takes next n old new → GoesOn new.state new.kind
+got_on (Plain left) n old new content b i (inl t) = goes_as (at_place Done (In (Plain left)) old) new t.1 (length b + left, i.0)
+got_on (Plain left) n old new content b i (inr t) = goes_as (at_place Open (In (Plain (left - n))) old) new t.1 tt
+got_on Endless n old new content b i t = goes_as (at_place Open (In Endless) old) new t tt
+got_on (Chunk left) n old new content b i (inl t) = goes_as (at_place Open (Around Behind) old) new t.1 tt
+got_on (Chunk left) n old new content b i (inr t) = goes_as (at_place Open (In (Chunk (left - n))) old) new t.1 tt
+
 -- bytes were passed before
 
 longer : (new : Body) (content b used more : List ℕ) → HasRead new content ((b ++ used) ++ more) → HasRead new content (b ++ (used ++ more))
@@ -129,7 +141,7 @@ stops_after BadChunk kind used more held mid kept i j k d s = draws_both used mo
 stops_after SourceFailed kind used more held mid kept i j k d s = draws_fail used more held mid kept i j k d s
 
 pub reads_after : (r : Read) (buf : List ℕ) (new : Body) (content b used held mid kept : List ℕ) (i j k : Intake) → Draws used held mid i j → ReadsBody r buf new content (b ++ used) mid kept j k → ReadsBody r buf new content b held kept i k
-reads_after (Got n) buf new content b used held mid kept i j k d r = (used ++ r.0, draws_both used r.0 held mid kept i j k d r.1, longer new _ b used r.0 r.2)
+reads_after (Got n) buf new content b used held mid kept i j k d r = (used ++ r.0, draws_both used r.0 held mid kept i j k d r.1, longer new _ b used r.0 r.2, r.3)
 reads_after End buf new content b used held mid kept i j k d r =
     (used ++ r.0, r.1, stops_after Done new.kind used r.0 held mid kept i j k d r.2, longer new content b used r.0 r.3)
 reads_after Failed buf new content b used held mid kept i j k d r =
@@ -143,7 +155,7 @@ within_of Endless n r len e l = omega arith
 within_of (Chunk left) n r len e l = omega (arith, e, l)
 
 pub data_got : (next : Content) (n r len : ℕ) (old new : Body) (content b buf tail held kept : List ℕ) (i j : Intake) → r ≡ room next len → length buf ≤ r → n ≤ length buf → Draws (take n buf) held kept i j → Takes next n old new
-    → IsIn old.kind next old.line content b → (used : List ℕ) × Draws used held kept i j × HasRead new (content ++ take n (buf ++ tail)) (b ++ used)
+    → IsIn old.kind next old.line content b → (used : List ℕ) × Draws used held kept i j × HasRead new (content ++ take n (buf ++ tail)) (b ++ used) × GoesOn new.state new.kind
 data_got next n r len old new content b buf tail held kept i j e s w d t is =
     let front : take n (buf ++ tail) ≡ take n buf = take-append-le n buf tail w in
     let size : length (take n buf) ≡ n = length-take-le n buf w in
@@ -151,6 +163,7 @@ data_got next n r len old new content b buf tail held kept i j e s w d t is =
       take n buf,
       d,
       subst (λ z. HasRead new (content ++ z) (b ++ take n buf)) (sym front) (got_data next n old new content b (take n buf) size within is t),
+      got_on next n old new content b is t,
     )
 
 moved : (r s : Read) (buf : List ℕ) (new old : Body) (content b held kept : List ℕ) (i j : Intake) → r ≡ s → new ≡ old → ReadsBody s buf old content b held kept i j → ReadsBody r buf new content b held kept i j

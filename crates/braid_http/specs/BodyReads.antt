@@ -68,11 +68,19 @@ Stops Torn kind used held kept i j = DrawsToEnd used held kept i j × (kind ≢ 
 Stops BadChunk kind used held kept i j = Draws used held kept i j
 Stops SourceFailed kind used held kept i j = DrawsAndFails used held kept i j
 
+-- data came: the body is not whole, or it is one of a length and whole with this data
+abbrev pub GoesOn : BodyState → BodyKind → Type 0
+GoesOn Open kind = Unit {0}
+GoesOn Done kind = (n : ℕ) × (kind ≡ kinds.Length n)
+GoesOn Torn kind = ⊥
+GoesOn BadChunk kind = ⊥
+GoesOn SourceFailed kind = ⊥
+
 -- One read of a body that is not over, which has passed b and given `content`: it gives the next data; or it ends, as the
 -- body is whole; or it fails.
 abbrev pub ReadsBody : Read → List ℕ → Body → List ℕ → List ℕ → List ℕ → List ℕ → Intake → Intake → Type 0
 ReadsBody (Got n) buf new content b held kept i j =
-    (used : List ℕ) × Draws used held kept i j × HasRead new (content ++ take n buf) (b ++ used)
+    (used : List ℕ) × Draws used held kept i j × HasRead new (content ++ take n buf) (b ++ used) × GoesOn new.state new.kind
 ReadsBody End buf new content b held kept i j =
     (used : List ℕ) × (new.state ≡ Done) × Stops Done new.kind used held kept i j × HasRead new content (b ++ used)
 ReadsBody Failed buf new content b held kept i j =

@@ -1,6 +1,6 @@
 ghost use Rattle.std.specs.Prelude.{◌≡◌, ◌≤◌, ◌<◌, List, ℕ, [], length, IfErr};
 ghost use Rattle.braid_io.specs.Outside.{Rose, next_count};
-ghost use Rattle.braid_http.specs.BodyReads.{HasRead, IsIn, Tells, IsOver, IsAnswer, ReadsBody, PassedAs, Ends, Takes, room};
+ghost use Rattle.braid_http.specs.BodyReads.{HasRead, IsIn, Tells, IsOver, IsAnswer, GoesOn, ReadsBody, PassedAs, Ends, Takes, room};
 
 use crate::around::{Framing, LineBegun, Passed, pass_framing};
 use crate::response::BodyKind;
@@ -60,6 +60,7 @@ impl Body {
     /// A body of this kind, of which nothing was read. It takes no memory.
     pub fn new(kind: BodyKind) -> Body
         ensures none { HasRead result [] [] }
+        ensures going { GoesOn result.state result.kind }
         ensures kind { result.kind ≡ kind }
         ensures faults { result.faults ≡ 0 }
     {
