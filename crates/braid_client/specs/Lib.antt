@@ -1,0 +1,12 @@
+pub mod Talks
+pub mod Pieces
+pub mod Judging
+pub mod Learning
+pub mod Hearing
+pub mod Opening
+pub mod Posting
+pub mod Syncs
+pub mod Follows
+pub mod Steps
+pub mod Links
+pub mod Laws
