@@ -1,87 +1,167 @@
 //! Follows over links that give scripted bytes.
 
+ghost use Rattle.braid_client.specs.Opening.{IsPlace};
+
 use super::*;
-use crate::tests::{CHUNKS, HEAD, LAST, X, Y, check, dialer, place, two_unsent};
+use crate::tests::{CHUNKS, HEAD, LAST, X, Y, check, one_link, place, scripted, two_unsent};
 use braid_io::{MemDialer, MemSink};
 use std::alloc::Global;
 use std::test::Fail;
 
-/// Chunks: `a-1` with the body `Z`, and a first part of the chunk of `y-1`.
+/// A chunk: `a-1` with the body `Z`.
 const A: &[u8] = b"34\r\nVersion: \"a-1\"\r\nParents:\r\nContent-Length: 1\r\n\r\nZ\r\n\r\n\r\n";
 
-/// A follow of so many updates in pieces of this size, with a sink of this room: its lines, its end and what was printed.
-fn followed(
-    alloc: Global,
-    script: &[&[u8]],
+#[derive(Clone, Copy)]
+enum Want {
+    Done,
+    Cut,
+    OutFault,
+}
+
+/// A follow of so many updates in pieces of this size, with a sink of this room; the end that is wanted, the number of lines,
+/// how many versions are confirmed, and what is printed.
+#[derive(Clone, Copy)]
+struct Row<'a> {
+    script: &'a [&'a [u8]],
     count: u32,
     piece: usize,
     room: usize,
-) -> Result<(Followed, MemSink, u32), Fail> {
+    want: Want,
+    lines: u32,
+    confirmed: u32,
+    printed: &'a [u8],
+}
+
+fn is_end(end: &SyncEnd, want: Want) -> bool {
+    match (end, want) {
+        (SyncEnd::Done, Want::Done) => true,
+        (SyncEnd::Cut, Want::Cut) => true,
+        (SyncEnd::OutFault, Want::OutFault) => true,
+        _ => false,
+    }
+}
+
+fn row_dialer(alloc: Global, row: &Row<'_>) -> Result<MemDialer, Fail> {
+    let link = scripted(alloc, row.script, row.piece, &[])?;
+    one_link(alloc, link)
+}
+
+fn row_holds(alloc: Global, place: &Place, row: &Row<'_>) -> Result<bool, Fail>
+    requires place { IsPlace place.now }
+{
     let mut replica = two_unsent(alloc)?;
-    let mut dialer: MemDialer = dialer(alloc, &[script], piece)?;
-    let mut out = MemSink::new(alloc, room, Vec::new(alloc))?;
+    let mut dialer = row_dialer(alloc, row)?;
+    let mut out = MemSink::new(alloc, row.room, Vec::new(alloc))?;
+    let followed = follow(alloc, &mut replica, place, &mut dialer, row.count, &mut out);
+    let text = out.written() == row.printed && dialer.talks().len() == 1;
+    let counts = followed.lines == row.lines && replica.confirmed() == row.confirmed;
+    Ok(is_end(&followed.end, row.want) && counts && text)
+}
+
+fn rows_hold(alloc: Global, rows: &[Row<'_>]) -> Result<bool, Fail> {
     let place = place(alloc)?;
-    let followed = follow(
-        alloc,
-        &mut replica,
-        &place,
-        &mut dialer,
-        count,
-        &mut out,
-    );
-    check(dialer.talks().len() == 1, "one link")?;
-    Ok((followed, out, replica.confirmed()))
+    let mut all = true;
+    for row in rows {
+        let one = row_holds(alloc, &place, row)?;
+        all = all && one;
+    }
+    Ok(all)
+}
+
+/// Known, confirmed and new updates, byte by byte and whole.
+fn lines_hold(alloc: Global) -> Result<bool, Fail> {
+    let text: &[u8] = b"New \"x-1\"\nKnown \"x-1\"\nConfirmed \"a-1\"\nNew \"y-1\"\n";
+    let rows = [
+        Row {
+            script: &[HEAD, b"\"x-1\"", CHUNKS, X, X, A, Y, LAST],
+            count: 4,
+            piece: 1,
+            room: 100,
+            want: Want::Done,
+            lines: 4,
+            confirmed: 3,
+            printed: text,
+        },
+        Row {
+            script: &[HEAD, b"\"x-1\"", CHUNKS, X, X, A, Y, LAST],
+            count: 4,
+            piece: 4096,
+            room: 100,
+            want: Want::Done,
+            lines: 4,
+            confirmed: 3,
+            printed: text,
+        },
+    ];
+    rows_hold(alloc, &rows)
+}
+
+/// The count, a whole body, one that is cut, data that is torn, and a line that can't be written.
+fn ends_hold(alloc: Global) -> Result<bool, Fail> {
+    let one: &[u8] = b"New \"x-1\"\n";
+    let rows = [
+        Row {
+            script: &[HEAD, b"\"x-1\"", CHUNKS, X, &Y[..50]],
+            count: 1,
+            piece: 4096,
+            room: 100,
+            want: Want::Done,
+            lines: 1,
+            confirmed: 1,
+            printed: one,
+        },
+        Row {
+            script: &[HEAD, b"\"x-1\"", CHUNKS, X, Y, LAST],
+            count: 9,
+            piece: 4096,
+            room: 100,
+            want: Want::Done,
+            lines: 2,
+            confirmed: 2,
+            printed: b"New \"x-1\"\nNew \"y-1\"\n",
+        },
+        Row {
+            script: &[HEAD, b"\"x-1\"", CHUNKS, X, &Y[..50]],
+            count: 2,
+            piece: 4096,
+            room: 100,
+            want: Want::Cut,
+            lines: 1,
+            confirmed: 1,
+            printed: one,
+        },
+        Row {
+            script: &[HEAD, b"\"x-1\"", CHUNKS, X, b"4\r\nVers\r\n", LAST],
+            count: 2,
+            piece: 4096,
+            room: 100,
+            want: Want::Cut,
+            lines: 1,
+            confirmed: 1,
+            printed: one,
+        },
+        Row {
+            script: &[HEAD, b"\"x-1\"", CHUNKS, X, Y, LAST],
+            count: 2,
+            piece: 4096,
+            room: 15,
+            want: Want::OutFault,
+            lines: 1,
+            confirmed: 2,
+            printed: b"New \"x-1\"\nNew \"",
+        },
+    ];
+    rows_hold(alloc, &rows)
 }
 
 #[test]
 fn each_update_has_its_line(rt: HostRuntime) -> Result<(), Fail> {
     let alloc = rt.alloc();
-    for piece in [1, 4096] {
-        let script: &[&[u8]] = &[HEAD, b"\"x-1\"", CHUNKS, X, X, A, Y, LAST];
-        let (followed, out, confirmed) = followed(alloc, script, 4, piece, 100)?;
-        let text = b"New \"x-1\"\nKnown \"x-1\"\nConfirmed \"a-1\"\nNew \"y-1\"\n";
-        check(out.written() == text.as_slice(), "the lines")?;
-        check(
-            matches!(followed.end, SyncEnd::Done) && followed.lines == 4 && confirmed == 3,
-            "done",
-        )?;
-    }
-    Ok(())
+    check(lines_hold(alloc)?, "the lines")
 }
 
 #[test]
 fn a_follow_ends_with_its_count_or_its_body(rt: HostRuntime) -> Result<(), Fail> {
     let alloc = rt.alloc();
-    let whole: &[&[u8]] = &[HEAD, b"\"x-1\"", CHUNKS, X, Y, LAST];
-    let cut: &[&[u8]] = &[HEAD, b"\"x-1\"", CHUNKS, X, &Y[..50]];
-    let torn: &[&[u8]] = &[HEAD, b"\"x-1\"", CHUNKS, X, b"4\r\nVers\r\n", LAST];
-    let (one, _, _) = followed(alloc, cut, 1, 4096, 100)?;
-    check(
-        matches!(one.end, SyncEnd::Done) && one.lines == 1,
-        "one is enough",
-    )?;
-    let (all, _, _) = followed(alloc, whole, 9, 4096, 100)?;
-    check(
-        matches!(all.end, SyncEnd::Done) && all.lines == 2,
-        "the body is whole",
-    )?;
-    let (part, _, _) = followed(alloc, cut, 2, 4096, 100)?;
-    check(
-        matches!(part.end, SyncEnd::Cut) && part.lines == 1,
-        "the body is cut",
-    )?;
-    let (rest, _, _) = followed(alloc, torn, 2, 4096, 100)?;
-    check(
-        matches!(rest.end, SyncEnd::Cut) && rest.lines == 1,
-        "the data is torn",
-    )?;
-    let (full, out, confirmed) = followed(alloc, whole, 2, 4096, 15)?;
-    check(
-        matches!(full.end, SyncEnd::OutFault) && full.lines == 1 && confirmed == 2,
-        "the line was not written",
-    )?;
-    check(
-        out.written() == b"New \"x-1\"\nNew \"".as_slice(),
-        "a front of it was",
-    )
+    check(ends_hold(alloc)?, "each end")
 }

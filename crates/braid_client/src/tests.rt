@@ -33,11 +33,8 @@ const ASKS_FOR_ALL: &[u8] =
 const ASKS_BEHIND_X: &[u8] =
     b"GET /doc HTTP/1.1\r\nHost: h:1\r\nSubscribe: true\r\nParents: \"x-1\"\r\nMerge-Type: ti-text\r\n\r\n";
 
-const PUTS_A: &[u8] =
-    b"PUT /doc HTTP/1.1\r\nHost: h:1\r\nVersion: \"a-1\"\r\nParents:\r\nMerge-Type: ti-text\r\nContent-Type: text/plain; charset=utf-8\r\nContent-Length: 1\r\n\r\nZ";
-
-const PUTS_NEXT: &[u8] =
-    b"PUT /doc HTTP/1.1\r\nHost: h:1\r\nVersion: \"a-2\"\r\nParents: \"a-1\"\r\nMerge-Type: ti-text\r\nContent-Type: text/plain; charset=utf-8\r\nPatches: 1\r\nContent-Length: 53\r\n\r\nContent-Length: 1\r\nContent-Range: text [1:1]\r\n\r\n!\r\n\r\n";
+const PUTS: &[u8] =
+    b"PUT /doc HTTP/1.1\r\nHost: h:1\r\nVersion: \"a-1\"\r\nParents:\r\nMerge-Type: ti-text\r\nContent-Type: text/plain; charset=utf-8\r\nContent-Length: 1\r\n\r\nZPUT /doc HTTP/1.1\r\nHost: h:1\r\nVersion: \"a-2\"\r\nParents: \"a-1\"\r\nMerge-Type: ti-text\r\nContent-Type: text/plain; charset=utf-8\r\nPatches: 1\r\nContent-Length: 53\r\n\r\nContent-Length: 1\r\nContent-Range: text [1:1]\r\n\r\n!\r\n\r\n";
 
 /// The head of a reply that names no version as the current one.
 const NONE_HELD: &[u8] = b"HTTP/1.1 209 X\r\nCurrent-Version:\r\n\r\n";
@@ -76,31 +73,70 @@ pub fn link(alloc: Global, given: Bytes, piece: usize, fails: Vec<u64>) -> Resul
     Ok(MemLink::new(alloc, given, piece, 400_000, fails)?)
 }
 
-/// A dialer of links that give these bytes.
-pub fn dialer(alloc: Global, scripts: &[&[&[u8]]], piece: usize) -> Result<MemDialer, Fail> {
-    let mut links = Vec::new(alloc);
-    for script in scripts {
-        let given = joined(alloc, script)?;
-        links.push(link(alloc, given, piece, Vec::new(alloc))?)?;
-    }
+/// A link that gives the bytes of these parts.
+pub fn scripted(
+    alloc: Global,
+    parts: &[&[u8]],
+    piece: usize,
+    fails: &[u64],
+) -> Result<MemLink, Fail>
+    ensures ok { IfOk result IsUnused }
+{
+    let given = joined(alloc, parts)?;
+    let fails = Vec::from_slice(alloc, fails)?;
+    link(alloc, given, piece, fails)
+}
+
+/// A dialer of one link.
+pub fn one_link(alloc: Global, link: MemLink) -> Result<MemDialer, Fail>
+    requires unused { IsUnused link }
+{
+    let links = vec![in alloc; link]?;
     Ok(MemDialer::new(alloc, links, Vec::new(alloc))?)
+}
+
+/// A dialer of two links. The dials with these numbers fail.
+fn two_links(
+    alloc: Global,
+    first: MemLink,
+    second: MemLink,
+    fails: Vec<u64>,
+) -> Result<MemDialer, Fail>
+    requires first { IsUnused first }
+    requires second { IsUnused second }
+{
+    let links = vec![in alloc; first, second]?;
+    Ok(MemDialer::new(alloc, links, fails)?)
+}
+
+/// A change that inserts these bytes at a place.
+fn insertion(alloc: Global, at: u32, bytes: &[u8]) -> Result<Change, Fail> {
+    let text = Text::read(alloc, bytes)?;
+    let patch = Patch {
+        start: at,
+        end: at,
+        text,
+    };
+    Ok(Change::Patches(ListPatch::of(vec![in alloc; patch]?)))
+}
+
+/// A replica with one more unsent version.
+fn written(alloc: Global, mut replica: Replica, change: Change) -> Result<Replica, Fail> {
+    let _id = replica.write(alloc, change)?;
+    Ok(replica)
+}
+
+/// The replica of agent `a` that has nothing.
+fn nothing(alloc: Global) -> Result<Replica, Fail> {
+    let agent = Agent::read(alloc, b"a")?;
+    Ok(Replica::new(alloc, agent))
 }
 
 /// A replica of agent `a` with two unsent versions: the body `Z`, and `!` behind it.
 pub fn two_unsent(alloc: Global) -> Result<Replica, Fail> {
-    let mut replica = Replica::new(alloc, Agent::read(alloc, b"a")?);
-    let _first = replica.write(alloc, Change::Body(Text::read(alloc, b"Z")?))?;
-    let text = Text::read(alloc, b"!")?;
-    let patch = Patch {
-        start: 1,
-        end: 1,
-        text,
-    };
-    let _second = replica.write(
-        alloc,
-        Change::Patches(ListPatch::of(vec![in alloc; patch]?)),
-    )?;
-    Ok(replica)
+    let first = Change::Body(Text::read(alloc, b"Z")?);
+    let one = written(alloc, nothing(alloc)?, first)?;
+    written(alloc, one, insertion(alloc, 1, b"!")?)
 }
 
 /// What the link with this number was sent.
@@ -115,46 +151,63 @@ fn has_counts(replica: &Replica, confirmed: u32, unsent: u32) -> bool {
     replica.confirmed() == confirmed && replica.unsent() == unsent
 }
 
-/// The first sync of the two: it is cut inside `y-1`.
-fn cut_sync(alloc: Global, replica: &mut Replica, piece: usize) -> Result<(), Fail> {
-    let mut dialer = dialer(alloc, &[&[HEAD, b"\"y-1\"", CHUNKS, X, &Y[..40]]], piece)?;
-    let place = place(alloc)?;
-    let end = sync(alloc, replica, &place, &mut dialer);
-    check(matches!(end, SyncEnd::Cut), "cut")?;
-    check(has_counts(replica, 1, 2), "one is confirmed")?;
-    check(
-        sent(&dialer, 0) == ASKS_FOR_ALL && dialer.talks().len() == 1,
-        "it asked for all",
-    )
+/// A first sync of the two: it is cut inside `y-1`, has learnt `x-1`, and has asked for all.
+fn cut_sync(alloc: Global, replica: &mut Replica, place: &Place, piece: usize) -> Result<bool, Fail>
+    requires place { IsPlace place.now }
+{
+    let link = scripted(alloc, &[HEAD, b"\"y-1\"", CHUNKS, X, &Y[..40]], piece, &[])?;
+    let mut dialer = one_link(alloc, link)?;
+    let end = sync(alloc, replica, place, &mut dialer);
+    let asked = sent(&dialer, 0) == ASKS_FOR_ALL && dialer.talks().len() == 1;
+    Ok(matches!(end, SyncEnd::Cut) && has_counts(replica, 1, 2) && asked)
+}
+
+/// A dialer of a second sync in pieces of this size.
+fn whole_dialer(alloc: Global, piece: usize) -> Result<MemDialer, Fail> {
+    let first = scripted(alloc, &[HEAD, b"\"y-1\"", CHUNKS, Y], piece, &[])?;
+    let second = scripted(alloc, &[TAKEN, TAKEN], piece, &[])?;
+    two_links(alloc, first, second, Vec::new(alloc))
 }
 
 /// The second sync: it asks behind `x-1` and sends both versions.
-fn whole_sync(alloc: Global, replica: &mut Replica, piece: usize) -> Result<(), Fail> {
-    let mut dialer = dialer(
-        alloc,
-        &[&[HEAD, b"\"y-1\"", CHUNKS, Y], &[TAKEN, TAKEN]],
-        piece,
-    )?;
-    let place = place(alloc)?;
-    let end = sync(alloc, replica, &place, &mut dialer);
-    check(matches!(end, SyncEnd::Done), "done")?;
-    check(has_counts(replica, 4, 0), "all are confirmed")?;
-    let puts = joined(alloc, &[PUTS_A, PUTS_NEXT])?;
-    check(
-        sent(&dialer, 0) == ASKS_BEHIND_X && sent(&dialer, 1) == puts.get(),
-        "what was sent",
-    )
+fn whole_sync(
+    alloc: Global,
+    replica: &mut Replica,
+    place: &Place,
+    piece: usize,
+) -> Result<bool, Fail>
+    requires place { IsPlace place.now }
+{
+    let mut dialer = whole_dialer(alloc, piece)?;
+    let end = sync(alloc, replica, place, &mut dialer);
+    let asked = sent(&dialer, 0) == ASKS_BEHIND_X && sent(&dialer, 1) == PUTS;
+    Ok(matches!(end, SyncEnd::Done) && has_counts(replica, 4, 0) && asked)
+}
+
+fn reads(alloc: Global, replica: &Replica, bytes: &[u8]) -> Result<bool, Fail> {
+    let text = Text::read(alloc, bytes)?;
+    Ok(replica.body(alloc)?.same(&text))
+}
+
+/// Whether a sync that was cut is gone on with, in pieces of this size.
+fn goes_on(alloc: Global, place: &Place, piece: usize) -> Result<bool, Fail>
+    requires place { IsPlace place.now }
+{
+    let mut replica = two_unsent(alloc)?;
+    let cut = cut_sync(alloc, &mut replica, place, piece)?;
+    let whole = whole_sync(alloc, &mut replica, place, piece)?;
+    Ok(cut && whole && reads(alloc, &replica, b"abcZ!")?)
 }
 
 #[test]
 fn a_cut_sync_is_gone_on_with(rt: HostRuntime) -> Result<(), Fail> {
     let alloc = rt.alloc();
+    let place = place(alloc)?;
     for piece in [1, 7, 4096] {
-        let mut replica = two_unsent(alloc)?;
-        cut_sync(alloc, &mut replica, piece)?;
-        whole_sync(alloc, &mut replica, piece)?;
-        let text = Text::read(alloc, b"abcZ!")?;
-        check(replica.body(alloc)?.same(&text), "the text")?;
+        check(
+            goes_on(alloc, &place, piece)?,
+            "what was sent, and the text",
+        )?;
     }
     Ok(())
 }
@@ -197,52 +250,58 @@ fn is_end(end: &SyncEnd, want: Want<'_>) -> bool {
     }
 }
 
-/// A replica of agent `a` with `x-1` confirmed, whose body is `ab`, and `a-1` behind it unsent, which inserts `P`.
-fn one_and_one(alloc: Global) -> Result<Replica, Fail> {
-    let mut replica = Replica::new(alloc, Agent::read(alloc, b"a")?);
+/// The update `x-1` with the body `ab`.
+fn update_x(alloc: Global) -> Result<Update, Fail> {
     let id = Id::read(alloc, b"x-1")?;
     let none = Frontier::of(Vec::new(alloc))?;
-    let x = Update::build(id, none, Change::Body(Text::read(alloc, b"ab")?))?;
+    let text = Text::read(alloc, b"ab")?;
+    Ok(Update::build(id, none, Change::Body(text))?)
+}
+
+/// A replica of agent `a` with `x-1` confirmed, whose body is `ab`, and `a-1` behind it unsent, which inserts `P`.
+fn one_and_one(alloc: Global) -> Result<Replica, Fail> {
+    let mut replica = nothing(alloc)?;
+    let x = update_x(alloc)?;
     let _learn = replica.learn(alloc, x);
-    let text = Text::read(alloc, b"P")?;
-    let patch = Patch {
-        start: 1,
-        end: 1,
-        text,
-    };
-    let _id = replica.write(
-        alloc,
-        Change::Patches(ListPatch::of(vec![in alloc; patch]?)),
-    )?;
-    Ok(replica)
+    let change = insertion(alloc, 1, b"P")?;
+    written(alloc, replica, change)
 }
 
 /// The dialer of a row's two links, in pieces of this size.
 fn row_dialer(alloc: Global, row: &Row<'_>, piece: usize) -> Result<MemDialer, Fail> {
-    let mut links = Vec::new(alloc);
-    let first = joined(alloc, row.first)?;
-    links.push(link(alloc, first, piece, Vec::new(alloc))?)?;
-    let second = Bytes::of(alloc, row.second)?;
-    links.push(link(alloc, second, piece, Vec::new(alloc))?)?;
-    Ok(MemDialer::new(alloc, links, Vec::new(alloc))?)
+    let first = scripted(alloc, row.first, piece, &[])?;
+    let given = Bytes::of(alloc, row.second)?;
+    let second = link(alloc, given, piece, Vec::new(alloc))?;
+    two_links(alloc, first, second, Vec::new(alloc))
 }
 
 /// A sync with a hostile server in pieces of this size: its end, and that nothing was confirmed or lost.
-fn row_holds(alloc: Global, row: &Row<'_>, piece: usize) -> Result<bool, Fail> {
+fn row_holds(alloc: Global, place: &Place, row: &Row<'_>, piece: usize) -> Result<bool, Fail>
+    requires place { IsPlace place.now }
+{
     let mut replica = one_and_one(alloc)?;
     let mut dialer = row_dialer(alloc, row, piece)?;
-    let place = place(alloc)?;
-    let end = sync(alloc, &mut replica, &place, &mut dialer);
+    let end = sync(alloc, &mut replica, place, &mut dialer);
     Ok(is_end(&end, row.want) && has_counts(&replica, 1, 1))
+}
+
+/// Whether each of these rows holds, byte by byte and whole.
+fn rows_hold(alloc: Global, rows: &[Row<'_>]) -> Result<bool, Fail> {
+    let place = place(alloc)?;
+    let mut all = true;
+    for row in rows {
+        let bytes = row_holds(alloc, &place, row, 1)?;
+        let whole = row_holds(alloc, &place, row, 4096)?;
+        all = all && bytes && whole;
+    }
+    Ok(all)
 }
 
 /// The head of a reply whose body ends with the connection, and which names `y-1`.
 const TO_CLOSE: &[u8] = b"HTTP/1.1 209 Subscription\r\nCurrent-Version: \"y-1\"\r\n\r\n";
 
-#[test]
-fn a_hostile_server_ends_a_sync_and_changes_nothing(rt: HostRuntime) -> Result<(), Fail> {
-    let alloc = rt.alloc();
-    let held: &[&[u8]] = &[b"HTTP/1.1 209 X\r\nCurrent-Version: \"x-1\"\r\n\r\n"];
+/// Dishonest streams.
+fn streams_hold(alloc: Global) -> Result<bool, Fail> {
     let rows = [
         Row {
             first: &[TO_CLOSE, b"Version: \"x-1\"\r\nContent-Length: 2\r\n\r\nho"],
@@ -294,6 +353,13 @@ fn a_hostile_server_ends_a_sync_and_changes_nothing(rt: HostRuntime) -> Result<(
             second: b"",
             want: Want::Cut,
         },
+    ];
+    rows_hold(alloc, &rows)
+}
+
+/// Dishonest heads and bodies of a subscription.
+fn heads_hold(alloc: Global) -> Result<bool, Fail> {
+    let rows = [
         Row {
             first: &[b"HTTP/1.1 209 X\r\n\r\n"],
             second: b"",
@@ -344,6 +410,14 @@ fn a_hostile_server_ends_a_sync_and_changes_nothing(rt: HostRuntime) -> Result<(
             second: b"",
             want: Want::Cut,
         },
+    ];
+    rows_hold(alloc, &rows)
+}
+
+/// Dishonest replies to a PUT.
+fn replies_hold(alloc: Global) -> Result<bool, Fail> {
+    let held: &[&[u8]] = &[b"HTTP/1.1 209 X\r\nCurrent-Version: \"x-1\"\r\n\r\n"];
+    let rows = [
         Row {
             first: held,
             second: b"HTTP/1.1 200 OK\r\nConte",
@@ -370,133 +444,199 @@ fn a_hostile_server_ends_a_sync_and_changes_nothing(rt: HostRuntime) -> Result<(
             want: Want::BadHead(braid_http::Refusal::BadChunk),
         },
     ];
-    for row in &rows {
-        for piece in [1, 4096] {
-            check(row_holds(alloc, row, piece)?, "the end and the counts")?;
-        }
-    }
-    Ok(())
+    rows_hold(alloc, &rows)
+}
+
+#[test]
+fn a_hostile_server_ends_a_sync_and_changes_nothing(rt: HostRuntime) -> Result<(), Fail> {
+    let alloc = rt.alloc();
+    check(streams_hold(alloc)?, "streams")?;
+    check(heads_hold(alloc)?, "heads")?;
+    check(replies_hold(alloc)?, "replies")
 }
 
 /// A replica of agent `a` with so many unsent versions without a change, each behind the one before it.
 fn many_unsent(alloc: Global, count: u64) -> Result<Replica, Fail> {
-    let mut replica = Replica::new(alloc, Agent::read(alloc, b"a")?);
+    let mut replica = nothing(alloc)?;
     for _ in 0..count {
         let _id = replica.write(alloc, Change::Patches(ListPatch::of(Vec::new(alloc))))?;
     }
     Ok(replica)
 }
 
-/// The dialer of a sync that has nothing to learn and 1,001 versions to send.
-fn thousand_dialer(alloc: Global) -> Result<MemDialer, Fail> {
-    let mut replies = joined(alloc, &[TAKEN])?;
-    for _ in 0..1_000 {
+/// A link that gives so many replies to PUTs.
+fn replies_link(alloc: Global, count: u64) -> Result<MemLink, Fail>
+    ensures ok { IfOk result IsUnused }
+{
+    let mut replies = Bytes::of(alloc, b"")?;
+    for _ in 0..count {
         replies.push(TAKEN)?;
     }
-    let mut links = Vec::new(alloc);
-    let first = joined(alloc, &[NONE_HELD])?;
-    links.push(link(alloc, first, 4096, Vec::new(alloc))?)?;
-    links.push(link(alloc, replies, 4096, Vec::new(alloc))?)?;
-    let last = joined(alloc, &[TAKEN])?;
-    links.push(link(alloc, last, 4096, Vec::new(alloc))?)?;
+    link(alloc, replies, 4096, Vec::new(alloc))
+}
+
+/// The dialer of a sync that has nothing to learn and 1,001 versions to send.
+fn thousand_dialer(alloc: Global) -> Result<MemDialer, Fail> {
+    let first = scripted(alloc, &[NONE_HELD], 4096, &[])?;
+    let second = replies_link(alloc, 1_001)?;
+    let third = replies_link(alloc, 1)?;
+    let links = vec![in alloc; first, second, third]?;
     Ok(MemDialer::new(alloc, links, Vec::new(alloc))?)
+}
+
+/// Whether 1,001 versions are sent over two links.
+fn sends_a_thousand(alloc: Global, place: &Place) -> Result<bool, Fail>
+    requires place { IsPlace place.now }
+{
+    let mut replica = many_unsent(alloc, 1_001)?;
+    let mut dialer = thousand_dialer(alloc)?;
+    let end = sync(alloc, &mut replica, place, &mut dialer);
+    let sent = has_counts(&replica, 1_001, 0) && dialer.talks().len() == 3;
+    Ok(matches!(end, SyncEnd::Done) && sent)
 }
 
 #[test]
 fn a_link_carries_at_most_a_thousand_puts(rt: HostRuntime) -> Result<(), Fail> {
     let alloc = rt.alloc();
-    let mut replica = many_unsent(alloc, 1_001)?;
-    let mut dialer = thousand_dialer(alloc)?;
     let place = place(alloc)?;
-    let end = sync(alloc, &mut replica, &place, &mut dialer);
-    check(matches!(end, SyncEnd::Done), "done")?;
-    check(
-        has_counts(&replica, 1_001, 0) && dialer.talks().len() == 3,
-        "two links of PUTs",
-    )
+    check(sends_a_thousand(alloc, &place)?, "two links of PUTs")
 }
 
-/// A second sync in which the dial, the read or write of the first link, or that of the second link with these numbers fails.
-fn failed_sync(
-    alloc: Global,
-    dials: &[u64],
-    first: &[u64],
-    second: &[u64],
-) -> Result<(SyncEnd, u32, u32), Fail> {
+/// A call that fails.
+#[derive(Clone, Copy)]
+enum Failed {
+    Dial,
+    Read,
+    Write,
+    Nothing,
+}
+
+/// A second sync in which the dial, the read or write of the first link, or that of the second link with these numbers fails;
+/// the call that its end names, and how many versions are confirmed and unsent then.
+#[derive(Clone, Copy)]
+struct Failing<'a> {
+    dials: &'a [u64],
+    first: &'a [u64],
+    second: &'a [u64],
+    failed: Failed,
+    confirmed: u32,
+    unsent: u32,
+}
+
+fn is_failure(end: &SyncEnd, failed: Failed) -> bool {
+    match (end, failed) {
+        (SyncEnd::DialFault, Failed::Dial) => true,
+        (SyncEnd::ReadFault, Failed::Read) => true,
+        (SyncEnd::WriteFault, Failed::Write) => true,
+        (SyncEnd::Done, Failed::Nothing) => true,
+        _ => false,
+    }
+}
+
+fn failing_dialer(alloc: Global, row: &Failing<'_>) -> Result<MemDialer, Fail> {
+    let one = scripted(alloc, &[HEAD, b"\"y-1\"", CHUNKS, Y], 4096, row.first)?;
+    let two = scripted(alloc, &[TAKEN, TAKEN], TAKEN.len(), row.second)?;
+    let fails = Vec::from_slice(alloc, row.dials)?;
+    two_links(alloc, one, two, fails)
+}
+
+fn fails_so(alloc: Global, place: &Place, row: &Failing<'_>) -> Result<bool, Fail>
+    requires place { IsPlace place.now }
+{
+    let mut dialer = failing_dialer(alloc, row)?;
     let mut replica = two_unsent(alloc)?;
-    cut_sync(alloc, &mut replica, 4096)?;
-    let mut links = Vec::new(alloc);
-    let given = joined(alloc, &[HEAD, b"\"y-1\"", CHUNKS, Y])?;
-    links.push(link(alloc, given, 4096, Vec::from_slice(alloc, first)?)?)?;
-    let given = joined(alloc, &[TAKEN, TAKEN])?;
-    links.push(link(alloc, given, TAKEN.len(), Vec::from_slice(alloc, second)?)?)?;
-    let mut dialer = MemDialer::new(alloc, links, Vec::from_slice(alloc, dials)?)?;
+    let cut = cut_sync(alloc, &mut replica, place, 4096)?;
+    let end = sync(alloc, &mut replica, place, &mut dialer);
+    Ok(cut && is_failure(&end, row.failed) && has_counts(&replica, row.confirmed, row.unsent))
+}
+
+/// Whether each call of a second sync ends it where it fails, and no further call is made.
+fn calls_fail(alloc: Global) -> Result<bool, Fail> {
     let place = place(alloc)?;
-    let end = sync(alloc, &mut replica, &place, &mut dialer);
-    Ok((end, replica.confirmed(), replica.unsent()))
+    let rows = [
+        Failing {
+            dials: &[0],
+            first: &[],
+            second: &[],
+            failed: Failed::Dial,
+            confirmed: 1,
+            unsent: 2,
+        },
+        Failing {
+            dials: &[1],
+            first: &[],
+            second: &[],
+            failed: Failed::Dial,
+            confirmed: 2,
+            unsent: 2,
+        },
+        Failing {
+            dials: &[],
+            first: &[0],
+            second: &[],
+            failed: Failed::Write,
+            confirmed: 1,
+            unsent: 2,
+        },
+        Failing {
+            dials: &[],
+            first: &[1],
+            second: &[],
+            failed: Failed::Read,
+            confirmed: 1,
+            unsent: 2,
+        },
+        Failing {
+            dials: &[],
+            first: &[],
+            second: &[0],
+            failed: Failed::Write,
+            confirmed: 2,
+            unsent: 2,
+        },
+        Failing {
+            dials: &[],
+            first: &[],
+            second: &[1],
+            failed: Failed::Read,
+            confirmed: 2,
+            unsent: 2,
+        },
+        Failing {
+            dials: &[],
+            first: &[],
+            second: &[2],
+            failed: Failed::Write,
+            confirmed: 3,
+            unsent: 1,
+        },
+        Failing {
+            dials: &[],
+            first: &[],
+            second: &[3],
+            failed: Failed::Read,
+            confirmed: 3,
+            unsent: 1,
+        },
+        Failing {
+            dials: &[],
+            first: &[],
+            second: &[4],
+            failed: Failed::Nothing,
+            confirmed: 4,
+            unsent: 0,
+        },
+    ];
+    let mut all = true;
+    for row in &rows {
+        let one = fails_so(alloc, &place, row)?;
+        all = all && one;
+    }
+    Ok(all)
 }
 
 #[test]
 fn a_call_that_fails_ends_a_sync(rt: HostRuntime) -> Result<(), Fail> {
     let alloc = rt.alloc();
-    check(
-        matches!(
-            failed_sync(alloc, &[0], &[], &[])?,
-            (SyncEnd::DialFault, 1, 2)
-        ),
-        "the first dial",
-    )?;
-    check(
-        matches!(
-            failed_sync(alloc, &[1], &[], &[])?,
-            (SyncEnd::DialFault, 2, 2)
-        ),
-        "the second dial",
-    )?;
-    check(
-        matches!(
-            failed_sync(alloc, &[], &[0], &[])?,
-            (SyncEnd::WriteFault, 1, 2)
-        ),
-        "the request",
-    )?;
-    check(
-        matches!(
-            failed_sync(alloc, &[], &[1], &[])?,
-            (SyncEnd::ReadFault, 1, 2)
-        ),
-        "its reply",
-    )?;
-    check(
-        matches!(
-            failed_sync(alloc, &[], &[], &[0])?,
-            (SyncEnd::WriteFault, 2, 2)
-        ),
-        "the first PUT",
-    )?;
-    check(
-        matches!(
-            failed_sync(alloc, &[], &[], &[1])?,
-            (SyncEnd::ReadFault, 2, 2)
-        ),
-        "its reply",
-    )?;
-    check(
-        matches!(
-            failed_sync(alloc, &[], &[], &[2])?,
-            (SyncEnd::WriteFault, 3, 1)
-        ),
-        "the second PUT",
-    )?;
-    check(
-        matches!(
-            failed_sync(alloc, &[], &[], &[3])?,
-            (SyncEnd::ReadFault, 3, 1)
-        ),
-        "its reply",
-    )?;
-    check(
-        matches!(failed_sync(alloc, &[], &[], &[4])?, (SyncEnd::Done, 4, 0)),
-        "no further call is made",
-    )
+    check(calls_fail(alloc)?, "each call in turn")
 }
