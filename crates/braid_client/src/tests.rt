@@ -1,6 +1,7 @@
 //! Syncs over links that give scripted bytes.
 
-ghost use Rattle.std.specs.Prelude.{IfOk};
+ghost use Rattle.std.specs.Prelude.{◌<◌, ◌^◌, IfOk, length};
+ghost use Rattle.braid_change.specs.Changes.{patches_of};
 ghost use Rattle.braid_io.specs.MemDoors.{IsUnused};
 ghost use Rattle.braid_client.specs.Opening.{IsPlace};
 
@@ -110,7 +111,9 @@ fn two_links(
 }
 
 /// A change that inserts these bytes at a place.
-fn insertion(alloc: Global, at: u32, bytes: &[u8]) -> Result<Change, Fail> {
+fn insertion(alloc: Global, at: u32, bytes: &[u8]) -> Result<Change, Fail>
+    ensures counted { IfOk result (λ change. length (patches_of change) < 2 ^ 32) }
+{
     let text = Text::read(alloc, bytes)?;
     let patch = Patch {
         start: at,
@@ -121,7 +124,9 @@ fn insertion(alloc: Global, at: u32, bytes: &[u8]) -> Result<Change, Fail> {
 }
 
 /// A replica with one more unsent version.
-fn written(alloc: Global, mut replica: Replica, change: Change) -> Result<Replica, Fail> {
+fn written(alloc: Global, mut replica: Replica, change: Change) -> Result<Replica, Fail>
+    requires counted { length (patches_of change) < 2 ^ 32 }
+{
     let _id = replica.write(alloc, change)?;
     Ok(replica)
 }
