@@ -1,4 +1,4 @@
-ghost use Rattle.std.specs.Prelude.{◌≡◌, ◌+◌, ◌-◌, ◌<◌, ◌≤◌, ◌^◌, ◌++◌, ◌∷◌, [], Contains, MatchOption, length};
+ghost use Rattle.std.specs.Prelude.{◌≡◌, ◌+◌, ◌-◌, ◌<◌, ◌≤◌, ◌^◌, ◌++◌, ◌∷◌, [], Contains, MatchOption, OnOk, length};
 ghost use Rattle.braid_tree.specs.Rows.{HasPlace, AreNewOrdinals, AreKnown, PutsRun, PutsOne, ListsWithRun, HasRoomFor, Spends};
 ghost use Rattle.braid_spans.specs.Spans.{spelled, rows_of, deletions_of};
 
@@ -92,7 +92,17 @@ impl Document for SpanDocument {
 
     ghost room = { λ d. d.room };
 
-    fn reserve(&mut self, versions: u32, elements: u32, deletions: u32) -> Result<(), Memory> {
+    fn reserve(&mut self, versions: u32, elements: u32, deletions: u32) -> Result<(), Memory>
+        requires few_versions { length self.old.stamps + versions < 2 ^ 32 }
+        requires few_elements { length (rows_of (spelled self.old.runs)) + elements < 2 ^ 32 }
+        requires few_deletions { length (deletions_of (spelled self.old.runs)) + deletions < 2 ^ 32 }
+        ensures ok { OnOk result (HasRoomFor self.new.room versions elements deletions) }
+        ensures room { Spends self.old.room self.new.room 0 0 0 }
+        ensures stamps { self.new.stamps ≡ self.old.stamps }
+        ensures rows { rows_of (spelled self.new.runs) ≡ rows_of (spelled self.old.runs) }
+        ensures deletions { deletions_of (spelled self.new.runs) ≡ deletions_of (spelled self.old.runs) }
+        ensures runs { self.new.runs ≡ self.old.runs }
+    {
         let versions = versions.max(self.left.versions);
         let elements = elements.max(self.left.elements);
         let deletions = deletions.max(self.left.deletions);
@@ -110,7 +120,15 @@ impl Document for SpanDocument {
         Ok(())
     }
 
-    fn begin(&mut self, id: Id, level: u32) {
+    fn begin(&mut self, id: Id, level: u32)
+        requires roomy { HasRoomFor self.old.room 1 0 0 }
+        ensures stamps { self.new.stamps ≡ self.old.stamps ++ record { id = id; level = level } ∷ [] }
+        ensures rows { rows_of (spelled self.new.runs) ≡ rows_of (spelled self.old.runs) }
+        ensures deletions { deletions_of (spelled self.new.runs) ≡ deletions_of (spelled self.old.runs) }
+        ensures room { Spends self.old.room self.new.room 1 0 0 }
+        ensures known { AreKnown self.old.stamps (rows_of (spelled self.old.runs)) }
+        ensures runs { self.new.runs ≡ self.old.runs }
+    {
         self.versions.push_reserved(Version { id, level });
         self.left.versions -= 1;
     }
