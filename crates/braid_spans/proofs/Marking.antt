@@ -1,19 +1,21 @@
--- What one more deletion of one element does to what contracts see.
-use Rattle.std.proofs.Common.{◌≡◌, ℕ, suc, ◌+◌, List, [], ◌∷◌, ◌++◌, Some, length, take, drop, slice_get, get_or, refl, sym, ap, ◌∙◌, arith}
+-- What one more deletion of neighbours does to what contracts see.
+use Rattle.std.proofs.Common.{◌≡◌, ℕ, zero, suc, ◌+◌, ◌<◌, ◌≤◌, List, [], ◌∷◌, ◌++◌, Option, Some, length, map, take, drop, slice_get, get_or, refl, sym, ap, subst, ◌∙◌, arith, append_assoc}
 use Rattle.std.proofs.Math.ListN.{set}
 use Rattle.std.proofs.lemmas.List.{length-append, length-drop, append-nil, drop-append-le, take-append-le, get_or_at}
 use Rattle.std.proofs.lemmas.List.Elements.{All-take, All-drop, All-weaker, All-set, All-head, All-tail}
 use Rattle.braid_tree.specs.declared.at.At.{At}
-use Rattle.braid_tree.specs.Rows.{PutsOne}
+use Rattle.std.specs.List.Sorted.{IsPermutation}
+use Rattle.braid_tree.specs.Rows.{PutsOne, RowDeletion, place}
+use Rattle.braid_tree.proofs.Deletions.{puts_length, permuted_more, deletion_at}
 use Rattle.braid_spans.specs.declared.run.Run.{Run}
 use Rattle.braid_spans.specs.declared.link.Link.{Link}
 use Rattle.braid_spans.specs.Spans.{Spelled, spell, spelled_span, spelled, rows_of, deletions_of, deletions_in}
-use Rattle.braid_spans.specs.Kept.{span_of, spans_of, chain_at, chains_of, IsFitting, AreFitting, MarksOne, linked_to}
+use Rattle.braid_spans.specs.Kept.{span_of, spans_of, chain_at, chains_of, IsFitting, AreFitting, MarksOne, MarksEach, linked_to}
+use Rattle.braid_spans.specs.SeenRuns.{places_from}
 use Rattle.braid_spans.proofs.Lists.{all_got, parts, set_parts}
 use Rattle.braid_spans.proofs.Chains.{chain_more, chains_count, chains_push}
-use Rattle.braid_spans.proofs.Spelling.{rows_of-append, deletions_of-append}
+use Rattle.braid_spans.proofs.Spelling.{rows_of-append, deletions_of-append, text_length}
 use Rattle.braid_spans.proofs.Cutting.{spelled_parts}
-use Rattle.braid_spans.proofs.Passing.{one_char}
 
 -- the rows stay
 pub marked_rows : (old new : List Spelled) (at : At) (by : ℕ) → MarksOne old new at by → rows_of new ≡ rows_of old
@@ -47,8 +49,58 @@ more_spans versions chars more chains others (r ∷ rs) fit =
     text = ap (take r.len) (drop-append-le r.start chars more (omega (arith, fit_r.within)))
         ∙ take-append-le r.len (drop r.start chars) more (let d = length-drop r.start chars in omega (arith, d, fit_r.within))
 
--- the element alone, with one more deletion
-module _ (versions by : ℕ) (at : At) (chars : List ℕ) (links : List Link) (rs : List Run) (i : ℕ) (r : Run) (e : slice_get rs i ≡ Some r) (is : r.first ≡ at) (one : r.len ≡ 1) (fit : AreFitting versions chars (chains_of links) rs) where
+-- the same of neighbours that are deleted one after the other: the rows stay,
+pub each_rows : (old new : List Spelled) (version n k by : ℕ) → MarksEach old new version n k by → rows_of new ≡ rows_of old
+each_rows old new version n zero by e = ap rows_of (sym e)
+each_rows old new version n (suc k) by (mid, one, more) = each_rows mid new version (n + 1) k by more ∙ marked_rows old mid (place version n) by one
+
+-- there are as many more deletions,
+pub each_count : (old new : List Spelled) (version n k by : ℕ) → MarksEach old new version n k by → length (deletions_of new) ≡ length (deletions_of old) + k
+each_count old new version n zero by e = let l = ap (λ t. length (deletions_of t)) e in omega (arith, l)
+each_count old new version n (suc k) by (mid, one, more) =
+    let a = puts_length (deletions_of old) (deletions_of mid) (record { at = place version n; by = by }) (marked_deletions old mid (place version n) by one) in
+    let b = each_count mid new version (n + 1) k by more in omega (arith, a, b)
+
+-- and they are those that were there and the new ones, in some order
+pub each_permuted : (done : List RowDeletion) (old new : List Spelled) (version n k by : ℕ) → IsPermutation done (deletions_of old) → MarksEach old new version n k by
+    → IsPermutation (done ++ map (deletion_at by) (places_from version n k)) (deletions_of new)
+each_permuted done old new version n zero by same e = subst (λ t. IsPermutation t (deletions_of new)) (sym (append-nil done)) (subst (λ t. IsPermutation done (deletions_of t)) e same)
+each_permuted done old new version n (suc k) by same (mid, one, more) =
+    subst (λ t. IsPermutation t (deletions_of new)) (append_assoc done (deletion_at by (place version n) ∷ []) (map (deletion_at by) (places_from version (n + 1) k)))
+    (each_permuted (done ++ deletion_at by (place version n) ∷ []) mid new version (n + 1) k by (permuted_more done (deletions_of old) (deletions_of mid) (deletion_at by (place version n)) same (marked_deletions old mid (place version n) by one)) more)
+
+-- one element alone
+pub each_one : (old new : List Spelled) (at : At) (by : ℕ) → MarksOne old new at by → MarksEach old new at.version at.ordinal 1 by
+each_one old new at by one = (new, one, refl)
+
+pub one_each : (old new : List Spelled) (at : At) (by k : ℕ) → 0 < k → k ≤ 1 → MarksEach old new at.version at.ordinal k by → MarksOne old new at by
+one_each old new at by zero some few m = absurd (omega (arith, some))
+one_each old new at by (suc zero) some few (mid, one, e) = subst (λ t. MarksOne old t at by) e one
+one_each old new at by (suc (suc k)) some few m = absurd (omega (arith, few))
+
+-- the elements of a run between others
+each_spelled : (front back : List Spelled) (by : ℕ) (chain : List ℕ) (version : ℕ) (origin : Option At) (n : ℕ) (cs : List ℕ)
+    → MarksEach (front ++ (spell chain version origin n cs ++ back)) (front ++ (spell (by ∷ chain) version origin n cs ++ back)) version n (length cs) by
+each_spelled front back by chain version origin n [] = refl
+each_spelled front back by chain version origin n (c ∷ cs) = (
+  front ++ (marked ∷ (old ++ back)),
+  (front, record { row = record { at = place version n; char = c; origin = origin }; by = chain }, old ++ back, refl, refl, refl),
+  subst (λ t. MarksEach t (front ++ (marked ∷ (new ++ back))) version (n + 1) (length cs) by) (append_assoc front (marked ∷ []) (old ++ back))
+      (subst (λ t. MarksEach ((front ++ marked ∷ []) ++ (old ++ back)) t version (n + 1) (length cs) by) (append_assoc front (marked ∷ []) (new ++ back))
+      (each_spelled (front ++ marked ∷ []) back by chain version (Some (place version n)) (n + 1) cs)),
+)
+  where
+    marked : Spelled
+    marked = record { row = record { at = place version n; char = c; origin = origin }; by = by ∷ chain }
+
+    old : List Spelled
+    old = spell chain version (Some (place version n)) (n + 1) cs
+
+    new : List Spelled
+    new = spell (by ∷ chain) version (Some (place version n)) (n + 1) cs
+
+-- a run with one more deletion
+module _ (versions by : ℕ) (chars : List ℕ) (links : List Link) (rs : List Run) (i : ℕ) (r : Run) (e : slice_get rs i ≡ Some r) (fit : AreFitting versions chars (chains_of links) rs) where
   chains : List (List ℕ)
   chains = chains_of links
 
@@ -82,35 +134,34 @@ module _ (versions by : ℕ) (at : At) (chars : List ℕ) (links : List Link) (r
       ∙ ap (λ t. spans_of t (chains_of links ++ (by ∷ chain_at (chains_of links) r.newest) ∷ []) xs) (sym (append-nil chars))
       ∙ more_spans versions chars [] (chains_of links) ((by ∷ chain_at (chains_of links) r.newest) ∷ []) xs f
 
-  elem : Spelled
-  elem = record { row = record { at = r.first; char = get_or chars r.start 0; origin = r.origin }; by = chain_at (chains_of links) r.newest }
-
-  old_one : spelled_span (span_of chars (chains_of links) r) ≡ elem ∷ []
-  unfolding elem
-  old_one = ap (λ (n : ℕ). spell (chain_at (chains_of links) r.newest) r.first.version r.origin r.first.ordinal (take n (drop r.start chars))) one
-      ∙ ap (spell (chain_at (chains_of links) r.newest) r.first.version r.origin r.first.ordinal) (one_char chars r.start (omega (arith, fit_r.within, fit_r.some)))
-
-  new_one : spelled_span (span_of chars (chains_of (links ++ record { by = by; earlier = r.newest } ∷ [])) (linked_to r (length links))) ≡ record { row = (record { at = r.first; char = get_or chars r.start 0; origin = r.origin }); by = by ∷ chain_at (chains_of links) r.newest } ∷ []
-  new_one = ap (λ (n : ℕ). spell (chain_at (chains_of (links ++ record { by = by; earlier = r.newest } ∷ [])) (Some (length links))) r.first.version r.origin r.first.ordinal (take n (drop r.start chars))) one
-      ∙ ap (spell (chain_at (chains_of (links ++ record { by = by; earlier = r.newest } ∷ [])) (Some (length links))) r.first.version r.origin r.first.ordinal) (one_char chars r.start (omega (arith, fit_r.within, fit_r.some)))
-      ∙ ap (λ t. record { row = (record { at = r.first; char = get_or chars r.start 0; origin = r.origin }); by = t } ∷ []) new_chain
+  new_elements : spelled_span (span_of chars (chains_of (links ++ record { by = by; earlier = r.newest } ∷ [])) (linked_to r (length links))) ≡ spell (by ∷ chain_at (chains_of links) r.newest) r.first.version r.origin r.first.ordinal (take r.len (drop r.start chars))
+  new_elements = ap (λ (b : List ℕ). spell b r.first.version r.origin r.first.ordinal (take r.len (drop r.start chars))) new_chain
 
   pub link_fits : AreFitting versions chars (chains_of (links ++ record { by = by; earlier = r.newest } ∷ [])) (set rs i (linked_to r (length links)))
   link_fits = All-set (IsFitting versions (length chars) (length (chains_of (links ++ record { by = by; earlier = r.newest } ∷ [])))) rs i (linked_to r (length links)) fitting_new (all_weaker rs fit)
 
-  pub link_marks : MarksOne (spelled (spans_of chars (chains_of links) rs)) (spelled (spans_of chars (chains_of (links ++ record { by = by; earlier = r.newest } ∷ [])) (set rs i (linked_to r (length links))))) at by
-  unfolding elem
-  link_marks = (
-    spelled (spans_of chars (chains_of links) (take i rs)),
-    elem,
-    spelled (spans_of chars (chains_of links) (drop (suc i) rs)),
-    ap (λ t. spelled (spans_of chars (chains_of links) t)) (parts rs i r e)
-        ∙ spelled_parts chars (chains_of links) (take i rs) (drop (suc i) rs) r
-        ∙ ap (λ t. spelled (spans_of chars (chains_of links) (take i rs)) ++ (t ++ spelled (spans_of chars (chains_of links) (drop (suc i) rs)))) old_one,
-    is,
-    ap (λ t. spelled (spans_of chars (chains_of (links ++ record { by = by; earlier = r.newest } ∷ [])) t)) (set_parts rs i r (linked_to r (length links)) e)
-        ∙ spelled_parts chars (chains_of (links ++ record { by = by; earlier = r.newest } ∷ [])) (take i rs) (drop (suc i) rs) (linked_to r (length links))
-        ∙ ap (λ t. spelled t ++ (spelled_span (span_of chars (chains_of (links ++ record { by = by; earlier = r.newest } ∷ [])) (linked_to r (length links))) ++ spelled (spans_of chars (chains_of (links ++ record { by = by; earlier = r.newest } ∷ [])) (drop (suc i) rs)))) (same_spans (take i rs) (All-take (IsFitting versions (length chars) (length (chains_of links))) i rs fit))
-        ∙ ap (λ t. spelled (spans_of chars (chains_of links) (take i rs)) ++ (spelled_span (span_of chars (chains_of (links ++ record { by = by; earlier = r.newest } ∷ [])) (linked_to r (length links))) ++ spelled t)) (same_spans (drop (suc i) rs) (All-drop (IsFitting versions (length chars) (length (chains_of links))) (suc i) rs fit))
-        ∙ ap (λ t. spelled (spans_of chars (chains_of links) (take i rs)) ++ (t ++ spelled (spans_of chars (chains_of links) (drop (suc i) rs)))) new_one,
-  )
+  pub link_marks : MarksEach (spelled (spans_of chars (chains_of links) rs)) (spelled (spans_of chars (chains_of (links ++ record { by = by; earlier = r.newest } ∷ [])) (set rs i (linked_to r (length links))))) r.first.version r.first.ordinal r.len by
+  link_marks =
+      subst (λ (k : ℕ). MarksEach (spelled (spans_of chars (chains_of links) rs)) (spelled (spans_of chars (chains_of (links ++ record { by = by; earlier = r.newest } ∷ [])) (set rs i (linked_to r (length links))))) r.first.version r.first.ordinal k by)
+      (text_length versions (length (chains_of links)) chars r fit_r)
+      (subst (λ t. MarksEach t (spelled (spans_of chars (chains_of (links ++ record { by = by; earlier = r.newest } ∷ [])) (set rs i (linked_to r (length links))))) r.first.version r.first.ordinal (length (take r.len (drop r.start chars))) by) (sym old_parts)
+      (subst (λ t. MarksEach (F ++ (spell (chain_at (chains_of links) r.newest) r.first.version r.origin r.first.ordinal (take r.len (drop r.start chars)) ++ B)) t r.first.version r.first.ordinal (length (take r.len (drop r.start chars))) by) (sym new_parts)
+      (each_spelled F B by (chain_at (chains_of links) r.newest) r.first.version r.origin r.first.ordinal (take r.len (drop r.start chars)))))
+    where
+      F : List Spelled
+      F = spelled (spans_of chars (chains_of links) (take i rs))
+
+      B : List Spelled
+      B = spelled (spans_of chars (chains_of links) (drop (suc i) rs))
+
+      old_parts : spelled (spans_of chars (chains_of links) rs) ≡ F ++ (spell (chain_at (chains_of links) r.newest) r.first.version r.origin r.first.ordinal (take r.len (drop r.start chars)) ++ B)
+      old_parts = ap (λ t. spelled (spans_of chars (chains_of links) t)) (parts rs i r e)
+          ∙ spelled_parts chars (chains_of links) (take i rs) (drop (suc i) rs) r
+
+      new_parts : spelled (spans_of chars (chains_of (links ++ record { by = by; earlier = r.newest } ∷ [])) (set rs i (linked_to r (length links)))) ≡ F ++ (spell (by ∷ chain_at (chains_of links) r.newest) r.first.version r.origin r.first.ordinal (take r.len (drop r.start chars)) ++ B)
+      new_parts =
+          ap (λ t. spelled (spans_of chars (chains_of (links ++ record { by = by; earlier = r.newest } ∷ [])) t)) (set_parts rs i r (linked_to r (length links)) e)
+          ∙ spelled_parts chars (chains_of (links ++ record { by = by; earlier = r.newest } ∷ [])) (take i rs) (drop (suc i) rs) (linked_to r (length links))
+          ∙ ap (λ t. spelled t ++ (spelled_span (span_of chars (chains_of (links ++ record { by = by; earlier = r.newest } ∷ [])) (linked_to r (length links))) ++ spelled (spans_of chars (chains_of (links ++ record { by = by; earlier = r.newest } ∷ [])) (drop (suc i) rs)))) (same_spans (take i rs) (All-take (IsFitting versions (length chars) (length (chains_of links))) i rs fit))
+          ∙ ap (λ t. F ++ (spelled_span (span_of chars (chains_of (links ++ record { by = by; earlier = r.newest } ∷ [])) (linked_to r (length links))) ++ spelled t)) (same_spans (drop (suc i) rs) (All-drop (IsFitting versions (length chars) (length (chains_of links))) (suc i) rs fit))
+          ∙ ap (λ t. F ++ (t ++ B)) new_elements

@@ -12,12 +12,11 @@ use Rattle.braid_tree.specs.Inside.{HaveOwnPlaces}
 use Rattle.braid_tree.specs.Seen.{seen_rows, place_in, char_in}
 use Rattle.braid_tree.proofs.Places.{place_cases, place_of_run, known_put, own_put}
 use Rattle.braid_tree.proofs.KeptRows.{known_after}
-use Rattle.braid_tree.proofs.Deletions.{puts_length}
 use Rattle.braid_spans.specs.declared.run.Run.{Run}
 use Rattle.braid_spans.specs.declared.link.Link.{Link}
 use Rattle.braid_spans.specs.declared.version.Version.{Version}
 use Rattle.braid_spans.specs.Spans.{spelled_span, spelled, rows_of, deletions_of}
-use Rattle.braid_spans.specs.Kept.{span_of, spans_of, stamps_in, stamp_of, chains_of, reach, size_in, undeleted_in, IsFitting, AreFitting, IsSmall, IsHeld, IsHeldAt, IsSound, IsPut, MarksOne, SpellsAlike, AreLinked}
+use Rattle.braid_spans.specs.Kept.{span_of, spans_of, stamps_in, stamp_of, chains_of, reach, size_in, undeleted_in, IsFitting, AreFitting, IsSmall, IsHeld, IsHeldAt, IsSound, IsPut, MarksOne, MarksEach, SpellsAlike, AreLinked}
 use Rattle.braid_spans.specs.SeenRuns.{places_in, seen_runs, seen_count, seen_places, seen_chars}
 use Rattle.braid_spans.proofs.Lists.{sum_by-cons}
 use Rattle.braid_spans.proofs.SeenSteps.{places_length}
@@ -25,7 +24,7 @@ use Rattle.braid_spans.proofs.Chains.{chains_count}
 use Rattle.braid_spans.proofs.FullMarks.{full_count}
 use Rattle.braid_ids.specs.MarkSets.{IsMarked}
 use Rattle.braid_spans.proofs.Spelling.{rows_of-spell, rows_of-append, text_length}
-use Rattle.braid_spans.proofs.Marking.{marked_rows, marked_deletions}
+use Rattle.braid_spans.proofs.Marking.{each_rows, each_count, each_one}
 use Rattle.braid_spans.proofs.Seeing.{spelled_count, seen_count_is, seen_places_is, seen_chars_is}
 
 module _ (versions : ℕ) (chars : List ℕ) (links : List Link) (rs : List Run) (fit : AreFitting versions chars (chains_of links) rs) where
@@ -134,13 +133,13 @@ module _ (vs : List Version) (chars : List ℕ) (links : List Link) (rs : List R
       new_rows : List Row
       new_rows = rows_of (spelled (spans_of (chars ++ text) (chains_of links) new))
 
-  -- and so does one more deletion
-  pub sound_marked : (links' : List Link) (new : List Run) (at : At) (by : ℕ) → AreLinked links' → All (λ (x : Link). x.by < length vs) links' → length links' ≤ length links + 1
-      → AreFitting (length vs) chars (chains_of links') new → MarksOne (spelled (spans_of chars (chains_of links) rs)) (spelled (spans_of chars (chains_of links') new)) at by
-      → IsSound vs chars links' new (deletions + 1)
-  sound_marked links' new at by linked made few fit marked =
-      let rows : rows_of (spelled (spans_of chars (chains_of links') new)) ≡ rows_of (spelled (spans_of chars (chains_of links) rs)) = marked_rows (spelled (spans_of chars (chains_of links) rs)) (spelled (spans_of chars (chains_of links') new)) at by marked in
-      let more = puts_length (deletions_of (spelled (spans_of chars (chains_of links) rs))) (deletions_of (spelled (spans_of chars (chains_of links') new))) (record { at = at; by = by }) (marked_deletions (spelled (spans_of chars (chains_of links) rs)) (spelled (spans_of chars (chains_of links') new)) at by marked) in
+  -- and so does one more deletion of neighbours
+  pub sound_each : (links' : List Link) (new : List Run) (version n k by : ℕ) → 0 < k → AreLinked links' → All (λ (x : Link). x.by < length vs) links' → length links' ≤ length links + 1
+      → AreFitting (length vs) chars (chains_of links') new → MarksEach (spelled (spans_of chars (chains_of links) rs)) (spelled (spans_of chars (chains_of links') new)) version n k by
+      → IsSound vs chars links' new (deletions + k)
+  sound_each links' new version n k by some linked made few fit marked =
+      let rows : rows_of (spelled (spans_of chars (chains_of links') new)) ≡ rows_of (spelled (spans_of chars (chains_of links) rs)) = each_rows (spelled (spans_of chars (chains_of links) rs)) (spelled (spans_of chars (chains_of links') new)) version n k by marked in
+      let more = each_count (spelled (spans_of chars (chains_of links) rs)) (spelled (spans_of chars (chains_of links') new)) version n k by marked in
       record {
         known = subst (AreKnown (stamps_in vs)) (sym rows) sound.known;
         own_places = subst HaveOwnPlaces (sym rows) sound.own_places;
@@ -149,8 +148,14 @@ module _ (vs : List Version) (chars : List ℕ) (links : List Link) (rs : List R
         made = made;
         elements = sound.elements ∙ ap length (sym rows);
         deletions_are = omega (arith, more, sound.deletions_are);
-        few_links = omega (arith, few, sound.few_links);
+        few_links = omega (arith, some, few, sound.few_links);
       }
+
+  pub sound_marked : (links' : List Link) (new : List Run) (at : At) (by : ℕ) → AreLinked links' → All (λ (x : Link). x.by < length vs) links' → length links' ≤ length links + 1
+      → AreFitting (length vs) chars (chains_of links') new → MarksOne (spelled (spans_of chars (chains_of links) rs)) (spelled (spans_of chars (chains_of links') new)) at by
+      → IsSound vs chars links' new (deletions + 1)
+  sound_marked links' new at by linked made few fit marked =
+      sound_each links' new at.version at.ordinal 1 by (omega arith) linked made few fit (each_one (spelled (spans_of chars (chains_of links) rs)) (spelled (spans_of chars (chains_of links') new)) at by marked)
 
 past_end : {X : Type 0} (xs : List X) (n : ℕ) → length xs ≤ n → slice_get xs n ≡ None
 past_end [] zero l = refl

@@ -1,5 +1,5 @@
 -- What a document of runs keeps, and how contracts see it.
-use Rattle.std.specs.Prelude.{◌≡◌, ℕ, ◌+◌, ◌-◌, ◌*◌, ◌<◌, ◌≤◌, ◌^◌, List, [], ◌∷◌, ◌++◌, Option, Some, None, All, length, map, take, drop, slice_get, get_or, IfSome, IsSomeAnd, sum_by}
+use Rattle.std.specs.Prelude.{◌≡◌, ℕ, zero, suc, ◌+◌, ◌-◌, ◌*◌, ◌<◌, ◌≤◌, ◌^◌, List, [], ◌∷◌, ◌++◌, Option, Some, None, All, length, map, take, drop, slice_get, get_or, IfSome, IsSomeAnd, sum_by}
 use Rattle.braid_tree.specs.Keys.{key_cmp}
 use Rattle.std.specs.declared.cmp.Ordering.TheVariants.{Less}
 use Rattle.braid_tree.specs.Rows.{Stamp, DocumentRoom, AreKnown, PutsRun, ListsWithRun, key_at, place}
@@ -71,9 +71,9 @@ SpellsAlike old new = (versions : ℕ) (chars : List ℕ) (chains : List (List �
 abbrev pub IsEndAt : List Run → At → ℕ → Type 0
 IsEndAt rs at i = IsSomeAnd (slice_get rs i) (λ (r : Run). (r.first.version ≡ at.version) × (r.first.ordinal + r.len ≡ at.ordinal + 1))
 
--- run number i is the element at a place alone
-abbrev pub IsAloneAt : List Run → At → ℕ → Type 0
-IsAloneAt rs at i = IsSomeAnd (slice_get rs i) (λ (r : Run). (r.first ≡ at) × (r.len ≡ 1))
+-- run number i begins with the element at a place and has at most so many
+abbrev pub IsPartAt : List Run → At → ℕ → ℕ → Type 0
+IsPartAt rs at most i = IsSomeAnd (slice_get rs i) (λ (r : Run). (r.first ≡ at) × (0 < r.len) × (r.len ≤ most))
 
 -- a run goes on where the other ends
 pub record IsNext (l r : Run) : Type 0 where
@@ -86,6 +86,11 @@ pub record IsNext (l r : Run) : Type 0 where
 abbrev pub MarksOne : List Spelled → List Spelled → At → ℕ → Type 0
 MarksOne old new at by = (front : List Spelled) × (e : Spelled) × (back : List Spelled)
     × (old ≡ front ++ e ∷ back) × (e.row.at ≡ at) × (new ≡ front ++ record { row = e.row; by = by ∷ e.by } ∷ back)
+
+-- the new elements are the old ones, and one more version deletes so many of them: those of a version from an ordinal on
+abbrev pub MarksEach : List Spelled → List Spelled → ℕ → ℕ → ℕ → ℕ → Type 0
+MarksEach old new version n zero by = old ≡ new
+MarksEach old new version n (suc k) by = (mid : List Spelled) × MarksOne old mid (place version n) by × MarksEach mid new version (n + 1) k by
 
 -- the new elements are the old ones with those of a run in its place, and what deletes the old ones is as before
 pub record IsPut (vs : List Stamp) (old new : List Spelled) (first : At) (after : Option At) (text : List ℕ) : Type 0 where

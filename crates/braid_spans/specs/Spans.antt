@@ -37,6 +37,10 @@ row_in e = e.row
 abbrev pub rows_of : List Spelled → List Row
 rows_of es = map row_in es
 
+-- that a version deletes the element at a place
+abbrev pub deletion_by : ℕ → At → RowDeletion
+deletion_by n at = record { at = at; by = n }
+
 -- what deletes the element at a place
 abbrev pub deletions_at : At → List ℕ → List RowDeletion
 deletions_at at by = map (λ (n : ℕ). record { at = at; by = n }) by

@@ -1,8 +1,9 @@
-ghost use Rattle.std.specs.Prelude.{◌≡◌, ◌+◌, ◌-◌, ◌<◌, ◌≤◌, ◌^◌, ◌++◌, ◌∷◌, [], Contains, MatchOption, OnOk, length};
-ghost use Rattle.braid_tree.specs.Rows.{HasPlace, AreNewOrdinals, AreKnown, PutsRun, PutsOne, ListsWithRun, HasRoomFor, Spends};
-ghost use Rattle.braid_spans.specs.Spans.{spelled, rows_of, deletions_of};
+ghost use Rattle.std.specs.Prelude.{◌≡◌, ℕ, ◌+◌, ◌-◌, ◌*◌, ◌<◌, ◌≤◌, ◌^◌, ◌++◌, ◌∷◌, [], List, Contains, MatchOption, IsSomeAnd, OnOk, length, map, take, slice_get};
+ghost use Rattle.std.specs.List.Sorted.{IsPermutation};
+ghost use Rattle.braid_tree.specs.Rows.{RowDeletion, HasPlace, AreNewOrdinals, AreKnown, PutsRun, PutsOne, ListsWithRun, HasRoomFor, Spends};
+ghost use Rattle.braid_spans.specs.Spans.{spelled, rows_of, deletions_of, deletion_by};
 
-use crate::deleting::note_deletion;
+use crate::deleting::{neighbours, note_deletion, note_deletions};
 use crate::inserting::put_run;
 use crate::left::Left;
 use crate::link::Link;
@@ -73,6 +74,52 @@ impl SpanDocument {
                 deletions: 0,
             },
         }
+    }
+
+    /// Notes that the version begun last deletes these elements, as `delete` does of each of them. They stay listed.
+    ///
+    /// A version was begun, and all of them are listed. Neighbours of one run that stand in the list one after the other
+    /// are deleted at once. It takes no memory.
+    pub fn delete_all(&mut self, places: &[At])
+        requires begun { 0 < length self.old.stamps }
+        requires there { (i : ℕ) → i < length places.now
+            → IsSomeAnd (slice_get places.now i) (HasPlace (rows_of (spelled self.old.runs))) }
+        requires roomy { HasRoomFor self.old.room 0 0 (length places.now) }
+        ensures stamps { self.new.stamps ≡ self.old.stamps }
+        ensures rows { rows_of (spelled self.new.runs) ≡ rows_of (spelled self.old.runs) }
+        ensures deletions { IsPermutation (deletions_of (spelled self.old.runs)
+            ++ map (deletion_by (length self.old.stamps - 1)) places.now) (deletions_of (spelled self.new.runs)) }
+        ensures room { Spends self.old.room self.new.room 0 0 (length places.now) }
+        ensures runs { length self.new.runs ≤ length self.old.runs + 2 * length places.now }
+    {
+        let mut done = 0;
+        while done < places.len() {
+            done += self.delete_front(&places[done..]);
+        }
+    }
+
+    /// Notes that the version begun last deletes some of the first of these elements: how many.
+    fn delete_front(&mut self, places: &[At]) -> usize
+        requires begun { 0 < length self.old.stamps }
+        requires some { 0 < length places.now }
+        requires there { IsSomeAnd (slice_get places.now 0) (HasPlace (rows_of (spelled self.old.runs))) }
+        requires roomy { HasRoomFor self.old.room 0 0 (length places.now) }
+        ensures some { 0 < result }
+        ensures within { result ≤ length places.now }
+        ensures stamps { self.new.stamps ≡ self.old.stamps }
+        ensures rows { rows_of (spelled self.new.runs) ≡ rows_of (spelled self.old.runs) }
+        ensures deletions { (done : List RowDeletion) → IsPermutation done (deletions_of (spelled self.old.runs))
+            → IsPermutation (done ++ map (deletion_by (length self.old.stamps - 1)) (take result places.now))
+            (deletions_of (spelled self.new.runs)) }
+        ensures room { Spends self.old.room self.new.room 0 0 result }
+        ensures runs { length self.new.runs ≤ length self.old.runs + 2 }
+    {
+        let by = (self.versions.len() - 1) as u32;
+        let most = neighbours(places) as u32;
+        let count = note_deletions(&mut self.runs, &mut self.links, places[0], by, most);
+        self.deletions += count;
+        self.left.deletions -= count;
+        count as usize
     }
 
     /// How many runs there are. It takes no memory.

@@ -1,7 +1,7 @@
 //! Cuts of runs, which change no element, and the change of one element's run.
 
 ghost use Rattle.std.specs.Prelude.{◌≡◌, ℕ, ◌+◌, ◌-◌, ◌<◌, ◌≤◌, Some, All, IsSomeAnd, length, slice_get};
-ghost use Rattle.braid_spans.specs.Kept.{IsHeldAt, front_of, rest_of, IsSmall, IsEndAt, IsAloneAt, IsNext, SpellsAlike, PassesFirst};
+ghost use Rattle.braid_spans.specs.Kept.{IsHeldAt, front_of, rest_of, IsSmall, IsEndAt, IsPartAt, IsNext, SpellsAlike, PassesFirst};
 
 use crate::runs::Runs;
 use braid_tree::At;
@@ -43,39 +43,42 @@ pub fn open_behind(runs: &mut Runs, at: At) -> usize
     index + 1
 }
 
-/// Makes the first element of run number `index` a run of its own.
-fn keep_first(runs: &mut Runs, index: usize)
+/// Leaves at most so many of the first elements in run number `index`; the others come to be a run behind it.
+fn keep_front(runs: &mut Runs, index: usize, most: u32)
     requires there { IsSomeAnd (slice_get runs.old.list index) IsSmall }
+    requires some { 0 < most }
     requires roomy { 0 < runs.old.room }
     ensures alike { SpellsAlike runs.old.list runs.new.list }
-    ensures alone { IsSomeAnd (slice_get runs.old.list index) (λ r. IsAloneAt runs.new.list r.first index) }
+    ensures part { IsSomeAnd (slice_get runs.old.list index) (λ r. IsPartAt runs.new.list r.first most index) }
     ensures count { length runs.new.list ≤ length runs.old.list + 1 }
     ensures room { runs.old.room ≤ runs.new.room + 1 }
 {
     let run = runs.get(index);
-    if run.len > 1 {
-        cut(runs, index, 1);
+    if run.len > most {
+        cut(runs, index, most);
     }
 }
 
-/// Makes the element at `at`, which run number `index` holds, a run of its own: the number of that run.
-pub fn set_apart(runs: &mut Runs, index: usize, at: At) -> usize
+/// Makes the elements from the one at `at` on, which run number `index` holds, a run of their own, as far as the run has
+/// them and at most `most`: the number of that run.
+pub fn set_apart(runs: &mut Runs, index: usize, at: At, most: u32) -> usize
     requires there { IsHeldAt runs.old.list at index }
     requires small { All IsSmall runs.old.list }
+    requires some { 0 < most }
     requires roomy { 1 < runs.old.room }
     ensures alike { SpellsAlike runs.old.list runs.new.list }
-    ensures alone { IsAloneAt runs.new.list at result }
+    ensures part { IsPartAt runs.new.list at most result }
     ensures count { length runs.new.list ≤ length runs.old.list + 2 }
     ensures room { runs.old.room ≤ runs.new.room + 2 }
 {
     let run = runs.get(index);
     let k = at.ordinal - run.first.ordinal;
     if k == 0 {
-        keep_first(runs, index);
+        keep_front(runs, index, most);
         return index;
     }
     cut(runs, index, k);
-    keep_first(runs, index + 1);
+    keep_front(runs, index + 1, most);
     index + 1
 }
 
