@@ -17,3 +17,4 @@ pub mod Viewed
 pub mod Grown
 pub mod Taking
 pub mod Digests
+pub mod Insertions

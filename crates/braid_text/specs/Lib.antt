@@ -1,5 +1,6 @@
 pub mod Versions
 pub mod Histories
+pub mod RunCounts
 pub mod Documents
 pub mod Answers
 pub mod Alike

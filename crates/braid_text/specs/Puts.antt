@@ -11,6 +11,7 @@ use Rattle.braid_tree.specs.Rows.{Stamp, Row, RowDeletion, HasPlace, element_at,
 use Rattle.braid_rebase.specs.Additions.{nodes_at, AreUnder}
 use Rattle.braid_rebase.specs.Standing.{AreRunsOf}
 use Rattle.braid_rebase.specs.declared.run.Run.{Run}
+use Rattle.braid_text.specs.RunCounts.{text_count}
 
 abbrev pub text_len : Run → ℕ
 text_len run = length run.text
@@ -18,6 +19,13 @@ text_len run = length run.text
 -- how many characters runs insert
 abbrev pub total_len : List Run → ℕ
 total_len runs = sum_by text_len runs
+
+abbrev pub run_count : Run → ℕ
+run_count run = text_count run.text
+
+-- how many runs have text
+abbrev pub insertions_at : List Run → ℕ
+insertions_at runs = sum_by run_count runs
 
 -- the runs' places are there, and their ordinals go on from n
 abbrev pub AreOver : List Row → ℕ → List Run → Type 0

@@ -10,8 +10,18 @@ use Rattle.braid_rebase.specs.declared.resolving.Resolved.{Resolved}
 use Rattle.braid_tree.specs.Elements.{element_of}
 use Rattle.braid_tree.specs.Rows.{Stamp, Row, AreKnown, element_at, key_at, place}
 use Rattle.braid_tree.specs.Rows.{RowDeletion}
+use Rattle.braid_spans.specs.Spans.{SpanView, spelled, rows_of}
+use Rattle.braid_spans.specs.Spans.{deletions_of as removals_of}
 use Rattle.braid_text.specs.Versions.{Version}
 use Rattle.braid_text.specs.Histories.{graph_of, versions_at, document_of, Deletion, deletions_of, IsLegal, MayFollow}
+
+-- the elements of a document of runs, in reading order
+abbrev pub rows_in : SpanView → List Row
+rows_in d = rows_of (spelled d.runs)
+
+-- and what deletes them
+abbrev pub removed_in : SpanView → List RowDeletion
+removed_in d = removals_of (spelled d.runs)
 
 abbrev pub stamp_in : Version → Stamp
 stamp_in v = record { id = v.id; level = v.level }

@@ -1,13 +1,14 @@
 //! A history with its version graph and a document of its elements.
 
-ghost use Rattle.std.specs.Prelude.{◌≡◌, ◌≢◌, ◌+◌, ◌<◌, ◌≤◌, ◌^◌, ◌++◌, ◌∷◌, [], Ok, Err, IfOk, IfErr, OnOk, OnErr, length, map, vec_len, vec_capacity, Contains};
+ghost use Rattle.std.specs.Prelude.{◌≡◌, ◌≢◌, ◌+◌, ◌*◌, ◌<◌, ◌≤◌, ◌^◌, ◌++◌, ◌∷◌, [], Ok, Err, IfOk, IfErr, OnOk, OnErr, length, map, vec_len, vec_capacity, Contains};
 ghost use Rattle.braid_graph.specs.Ancestries.{IsUnknown};
 ghost use Rattle.braid_graph.specs.Entries.{HoldsAll};
 ghost use Rattle.braid_tree.specs.Rows.{HasRoomFor};
 ghost use Rattle.braid_text.specs.Puts.{total_len};
 ghost use Rattle.braid_text.specs.Histories.{graph_of, text_at, elements_of, deletions_of};
 ghost use Rattle.braid_text.specs.Answers.{needs_of, HasRoom, IsAnswer};
-ghost use Rattle.braid_text.specs.Standing.{Stands, IsTakable};
+ghost use Rattle.braid_text.specs.RunCounts.{insertions_of};
+ghost use Rattle.braid_text.specs.Standing.{Stands, IsTakable, rows_in, removed_in};
 ghost use Rattle.braid_text.specs.declared.accept.Accept.TheVariants.{New, Known};
 
 use crate::accept::Accept;
@@ -18,24 +19,25 @@ use braid_change::{Text, Update};
 use braid_graph::Graph;
 use braid_ids::{Frontier, Id, Memory, Unknown};
 use braid_rebase::{RebaseFault, Resolved, resolve};
+use braid_spans::SpanDocument;
 use braid_tree::Document;
 use std::alloc::Global;
 
 /// A history in order of arrival, its version graph, and the document of its elements.
 #[derive(Drop)]
-pub struct History<D: Document> {
+pub struct History {
     pub updates: Vec<Update>,
     pub graph: Graph,
-    pub document: D,
+    pub document: SpanDocument,
 }
 
-impl<D: Document> History<D> {
+impl History {
     /// What an update adds where it can be taken, or the answer that it gets.
     pub fn judge(&self, alloc: Global, update: &Update, room: &Room) -> Result<Resolved, Accept>
-        requires stands { Stands self.now.updates.items self.now.graph (D.stamps self.now.document)
-            (D.rows self.now.document) (D.removed self.now.document) }
-        ensures ok { IfOk result (λ resolved. IsTakable self.now.updates.items (D.removed self.now.document)
-            (D.rows self.now.document) update.now resolved) }
+        requires stands { Stands self.now.updates.items self.now.graph self.now.document.stamps
+            (rows_in self.now.document) (removed_in self.now.document) }
+        ensures ok { IfOk result (λ resolved. IsTakable self.now.updates.items (removed_in self.now.document)
+            (rows_in self.now.document) update.now resolved) }
         ensures room { OnOk result (HasRoom (needs_of self.now.updates.items update.now) room.now) }
         ensures refusal { IfErr result (λ answer. IsAnswer room.now self.now.updates.items update.now answer
             × (answer ≢ New)) }
@@ -73,10 +75,10 @@ impl<D: Document> History<D> {
     ///
     /// Errors: `Memory` where there was none to grow; nothing is changed then.
     pub fn take(&mut self, alloc: Global, update: Update, resolved: Resolved) -> Result<(), Memory>
-        requires stands { Stands self.old.updates.items self.old.graph (D.stamps self.old.document)
-            (D.rows self.old.document) (D.removed self.old.document) }
-        requires takable { IsTakable self.old.updates.items (D.removed self.old.document)
-            (D.rows self.old.document) update resolved }
+        requires stands { Stands self.old.updates.items self.old.graph self.old.document.stamps
+            (rows_in self.old.document) (removed_in self.old.document) }
+        requires takable { IsTakable self.old.updates.items (removed_in self.old.document)
+            (rows_in self.old.document) update resolved }
         requires versions { length self.old.updates.items < 524288 }
         requires elements { length (elements_of self.old.updates.items) +
             (needs_of self.old.updates.items update).elements ≤ 33554432 }
@@ -84,8 +86,11 @@ impl<D: Document> History<D> {
             (needs_of self.old.updates.items update).deletions ≤ 67108864 }
         ensures taken { OnOk result (self.new.updates.items ≡ self.old.updates.items ++ update ∷ []) }
         ensures kept { OnErr result (self.new.updates.items ≡ self.old.updates.items) }
-        ensures stands { Stands self.new.updates.items self.new.graph (D.stamps self.new.document)
-            (D.rows self.new.document) (D.removed self.new.document) }
+        ensures stands { Stands self.new.updates.items self.new.graph self.new.document.stamps
+            (rows_in self.new.document) (removed_in self.new.document) }
+        ensures runs { OnOk result (length self.new.document.runs ≤ length self.old.document.runs
+            + 2 * (insertions_of update.change + (needs_of self.old.updates.items update).deletions)) }
+        ensures kept_runs { OnErr result (self.new.document.runs ≡ self.old.document.runs) }
     {
         let name = self.prepare(alloc, &update, &resolved)?;
         add_version(&mut self.document, name, &resolved);
@@ -98,10 +103,10 @@ impl<D: Document> History<D> {
     ///
     /// Errors: `Memory` where there was none to grow; graph and document are unchanged then.
     fn prepare(&mut self, alloc: Global, update: &Update, resolved: &Resolved) -> Result<Id, Memory>
-        requires stands { Stands self.old.updates.items self.old.graph (D.stamps self.old.document)
-            (D.rows self.old.document) (D.removed self.old.document) }
-        requires takable { IsTakable self.old.updates.items (D.removed self.old.document)
-            (D.rows self.old.document) update.now resolved.now }
+        requires stands { Stands self.old.updates.items self.old.graph self.old.document.stamps
+            (rows_in self.old.document) (removed_in self.old.document) }
+        requires takable { IsTakable self.old.updates.items (removed_in self.old.document)
+            (rows_in self.old.document) update.now resolved.now }
         requires versions { length self.old.updates.items < 524288 }
         requires elements { length (elements_of self.old.updates.items) +
             (needs_of self.old.updates.items update.now).elements ≤ 33554432 }
@@ -112,10 +117,11 @@ impl<D: Document> History<D> {
             ++ record { id = update.now.id; parents = update.now.parents } ∷ []) }
         ensures kept { OnErr result (self.new.graph ≡ self.old.graph) }
         ensures updates { self.new.updates.items ≡ self.old.updates.items }
-        ensures stamps { D.stamps self.new.document ≡ D.stamps self.old.document }
-        ensures rows { D.rows self.new.document ≡ D.rows self.old.document }
-        ensures removed { D.removed self.new.document ≡ D.removed self.old.document }
-        ensures room { OnOk result (HasRoomFor (D.room self.new.document) 1 (total_len resolved.now.runs.items)
+        ensures stamps { self.new.document.stamps ≡ self.old.document.stamps }
+        ensures rows { rows_in self.new.document ≡ rows_in self.old.document }
+        ensures removed { removed_in self.new.document ≡ removed_in self.old.document }
+        ensures runs { self.new.document.runs ≡ self.old.document.runs }
+        ensures room { OnOk result (HasRoomFor self.new.document.room 1 (total_len resolved.now.runs.items)
             (length resolved.now.deletes.items)) }
         ensures reserved { OnOk result (vec_len self.new.updates < vec_capacity self.new.updates) }
         ensures fits { OnOk result (total_len resolved.now.runs.items < 2 ^ 32) }
@@ -132,8 +138,8 @@ impl<D: Document> History<D> {
 
     /// What is read at a frontier.
     pub fn read(&self, alloc: Global, at: &Frontier) -> Result<Text, Unknown>
-        requires stands { Stands self.now.updates.items self.now.graph (D.stamps self.now.document)
-            (D.rows self.now.document) (D.removed self.now.document) }
+        requires stands { Stands self.now.updates.items self.now.graph self.now.document.stamps
+            (rows_in self.now.document) (removed_in self.now.document) }
         ensures ok { IfOk result (λ text. HoldsAll (graph_of self.now.updates.items) at.now
             × (text ≡ text_at self.now.updates.items at.now)) }
         ensures fault { IfErr result (λ unknown. IsUnknown (graph_of self.now.updates.items) at.now unknown) }

@@ -1,6 +1,6 @@
 //! Laws of the definitions, each the contract of a function that does nothing.
 
-ghost use Rattle.std.specs.Prelude.{◌≡◌, ◌≢◌, ◌↔◌, ◌+◌, ◌-◌, ◌++◌, ◌∷◌, [], ℕ, List, Some, IsSome, MatchOption, true, codes, length, map, Contains};
+ghost use Rattle.std.specs.Prelude.{◌≡◌, ◌≢◌, ◌↔◌, ◌+◌, ◌-◌, ◌*◌, ◌++◌, ◌∷◌, [], ℕ, List, Some, IsSome, MatchOption, true, codes, length, map, Contains};
 ghost use Rattle.std.specs.declared.cmp.Ordering.TheVariants.{Less};
 ghost use Rattle.braid_ids.specs.Identifiers.{IsIdentifier};
 ghost use Rattle.braid_ids.specs.Frontiers.{IsRising};
@@ -18,6 +18,7 @@ ghost use Rattle.braid_tree.specs.Trees.{IsTree};
 ghost use Rattle.braid_rebase.specs.Additions.{ranges_at, seen_after};
 ghost use Rattle.braid_text.specs.Versions.{Version, has_version};
 ghost use Rattle.braid_text.specs.Histories.{graph_of, SameGraph, AreCompatible, MayFollow, IsLegal, versions_at, added_by, document_of, ancestors_at, seen_at, text_at, text_of, elements_by, deletions_by, elements_of, deletions_of};
+ghost use Rattle.braid_text.specs.RunCounts.{insertions_of, most_runs};
 ghost use Rattle.braid_text.specs.Documents.{IsDocument, IsSeen};
 ghost use Rattle.braid_text.specs.Answers.{needs_of, room_of, answer_to, HasRoom, IsAnswer};
 ghost use Rattle.braid_text.specs.Alike.{AreAlike};
@@ -177,6 +178,14 @@ pub fn one_digest()
     ensures exact { (H : List UpdateView) → IsLegal H → (u : UpdateView) → Contains (by_identifier H) u ↔ Contains H u }
     ensures rising { (H : List UpdateView) → IsRising (map id_in (by_identifier H)) }
     ensures law { (H K : List UpdateView) → IsLegal H → IsLegal K → SameGraph H K → digest_at H ≡ digest_at K }
+{}
+
+/// The bound on the runs of a history's document: 0 without updates, and each update adds two for each of its joined ranges
+/// that insert text and for each of its deletions.
+pub fn runs_law()
+    ensures none { most_runs [] ≡ 0 }
+    ensures more { (H : List UpdateView) (u : UpdateView) → most_runs (H ++ u ∷ [])
+        ≡ most_runs H + 2 * (insertions_of u.change + (needs_of H u).deletions) }
 {}
 
 /// What is read of small histories, in each order of arrival.

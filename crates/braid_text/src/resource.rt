@@ -5,6 +5,7 @@ ghost use Rattle.braid_graph.specs.Ancestries.{MarksAncestry, IsUnknown};
 ghost use Rattle.braid_graph.specs.Frontiers.{IsFrontierOf, frontier_of};
 ghost use Rattle.braid_text.specs.Histories.{graph_of, text_at, elements_of, deletions_of, IsLegal};
 ghost use Rattle.braid_text.specs.Answers.{IsAnswer};
+ghost use Rattle.braid_text.specs.RunCounts.{most_runs};
 ghost use Rattle.braid_text.specs.Digested.{digest_at};
 ghost use Rattle.braid_text.specs.declared.accept.Accept.TheVariants.{New, Known};
 
@@ -26,21 +27,22 @@ use std::marker::Model;
 /// document of all elements, which stand for the history.
 #[derive(Drop)]
 pub struct Resource {
-    history: History<SpanDocument>,
+    history: History,
 }
 
 impl Model for Resource {
-    ghost use Rattle.std.specs.Prelude.{List};
+    ghost use Rattle.std.specs.Prelude.{◌≤◌, List, length};
     ghost use Rattle.braid_change.specs.Updates.{UpdateView};
-    ghost use Rattle.braid_spans.specs.Spans.{spelled, rows_of, deletions_of};
-    ghost use Rattle.braid_text.specs.Standing.{Stands};
+    ghost use Rattle.braid_text.specs.RunCounts.{most_runs};
+    ghost use Rattle.braid_text.specs.Standing.{Stands, rows_in, removed_in};
 
     ghost Value = { List UpdateView };
 
     ghost view = { λ r. r.history.updates.items };
 
     ghost invariant = { λ r. Stands r.history.updates.items r.history.graph r.history.document.stamps
-        (rows_of (spelled r.history.document.runs)) (deletions_of (spelled r.history.document.runs)) };
+        (rows_in r.history.document) (removed_in r.history.document)
+        × (length r.history.document.runs ≤ most_runs r.history.updates.items) };
 }
 
 impl Resource {
@@ -144,6 +146,17 @@ impl Resource {
         ensures count { result ≡ length (deletions_of self.now) }
     {
         self.history.document.deletions()
+    }
+
+    /// How many runs of characters the document of its elements has. It takes no memory.
+    ///
+    /// A run is a list of neighbouring elements in reading order, of one version, with rising ordinals, each after the first
+    /// with the one before it as its origin, and all deleted by the same versions. A New adds at most two for each joined range
+    /// that inserts text and for each deletion, so there are at most two for each of all these.
+    pub fn runs(&self) -> u32
+        ensures few { result ≤ most_runs self.now }
+    {
+        self.history.document.runs()
     }
 
     /// How many identifiers the frontier has. It takes no memory.

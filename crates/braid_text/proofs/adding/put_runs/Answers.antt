@@ -2,22 +2,26 @@ use Rattle.std.proofs.Common.{◌≡◌, ◌+◌, ◌-◌, ◌∙◌, ℕ, List,
 use Rattle.braid_tree.specs.Rows.{Stamp, ListsWithRun, AreNewOrdinals, KeepsPlaces, PutsRun}
 use Rattle.braid_tree.proofs.Places.{keeps_put, next_put}
 use Rattle.braid_text.specs.Puts.{AreOver, ListsWithRuns, text_len, total_len}
+use Rattle.braid_text.specs.Standing.{rows_in}
+use Rattle.braid_text.specs.RunCounts.{text_count}
+use Rattle.braid_text.proofs.Insertions.{some_text, insertions_more}
 use Rattle.braid_text.proofs.Putting.{runs_more, empty_text, empty_run, over_more, runs_left, total_more}
 use Rattle.braid_text.proofs.adding.put_runs.Goals as goal
 
 pub loop-run-preserved : goal.loop-run-preserved
-loop-run-preserved g c =
+loop-run-preserved c =
     let inv = c.loop-run.invariant in
     let i = c.loop-run.run-index in
     let runs = c.args.runs.now in
     let r = c.run-item.result in
     let rest = drop (i + 1) runs in
-    let vs = g.D.Document.stamps c.args.doc.now in
-    let before = g.D.Document.rows c.loop-run.doc in
-    let after = g.D.Document.rows c.insert_run.new.self in
+    let vs = c.args.doc.now.stamps in
+    let before = rows_in c.loop-run.doc in
+    let after = rows_in c.insert_run.new.self in
     let next : drop i runs ≡ r ∷ rest = runs_left runs i r c.loop-run-test.true c.run-item.is in
     let more = total_more runs i r c.loop-run-test.true c.run-item.is in
     let over : AreOver before (total_len (take i runs)) (r ∷ rest) = subst (AreOver before (total_len (take i runs))) next inv.over in
+    let some : text_count c.chars-text.result.now ≡ 1 = some_text c.chars-text.result.now (sym c.is_empty.ensures ∙ c.if-is_empty.false) in
     let long : length c.chars-text.result.now ≡ text_len r = ap length c.chars-text.ensures.value in
     let put : PutsRun before after (length vs - 1) r.after r.ordinal r.text =
     subst (λ (t : List ℕ). PutsRun before after (length vs - 1) r.after r.ordinal t) c.chars-text.ensures.value
@@ -38,18 +42,19 @@ loop-run-preserved g c =
         elements_left = omega (arith, inv.room.elements_left, c.insert_run.ensures.room.elements_left, more, long);
         deletions_left = omega (arith, inv.room.deletions_left, c.insert_run.ensures.room.deletions_left);
       };
+      count = omega (arith, inv.count, c.insert_run.ensures.runs, insertions_more runs i r c.loop-run-test.true c.run-item.is, some, ap text_count c.chars-text.ensures.value);
       left = λ new lists. inv.left new (subst (ListsWithRuns vs before new) (sym next) (runs_more vs before after new r rest placed lists));
     }
 
 pub loop-run-preserved-then-is_empty : goal.loop-run-preserved-then-is_empty
-loop-run-preserved-then-is_empty g c =
+loop-run-preserved-then-is_empty c =
     let inv = c.loop-run.invariant in
     let i = c.loop-run.run-index in
     let runs = c.args.runs.now in
     let r = c.run-item.result in
     let rest = drop (i + 1) runs in
-    let vs = g.D.Document.stamps c.args.doc.now in
-    let before = g.D.Document.rows c.loop-run.doc in
+    let vs = c.args.doc.now.stamps in
+    let before = rows_in c.loop-run.doc in
     let next : drop i runs ≡ r ∷ rest = runs_left runs i r c.loop-run-test.true c.run-item.is in
     let more = total_more runs i r c.loop-run-test.true c.run-item.is in
     let over : AreOver before (total_len (take i runs)) (r ∷ rest) = subst (AreOver before (total_len (take i runs))) next inv.over in
@@ -66,5 +71,6 @@ loop-run-preserved-then-is_empty g c =
         elements_left = omega (arith, inv.room.elements_left, more);
         deletions_left = inv.room.deletions_left;
       };
+      count = omega (arith, inv.count, insertions_more runs i r c.loop-run-test.true c.run-item.is);
       left = λ new lists. inv.left new (subst (ListsWithRuns vs before new) (sym next) (runs_more vs before before new r rest (empty_run vs before r empty) lists));
     }

@@ -1,19 +1,21 @@
-use Rattle.std.proofs.Common.{◌≡◌, ◌-◌, take, drop, length, List}
+use Rattle.std.proofs.Common.{◌≡◌, ◌+◌, ◌-◌, ◌*◌, ◌≤◌, take, drop, length, List}
 use Rattle.braid_tree.specs.Rows.{Row, AreKnown, AreNewOrdinals, KeepsPlaces, Spends}
-use Rattle.braid_text.specs.Puts.{AreOver, ListsWithRuns, total_len}
+use Rattle.braid_text.specs.Puts.{AreOver, ListsWithRuns, total_len, insertions_at}
+use Rattle.braid_text.specs.Standing.{rows_in, removed_in}
 use Rattle.braid_text.proofs.adding.put_runs.Given as goal
 
 -- what is left of the runs leads to what all of them lead to
 abbrev pub invariant-loop-run : goal.invariant-loop-run
-invariant-loop-run g l =
+invariant-loop-run l =
     let done = total_len (take l.run-index l.runs) in
     record {
-      same : g.D.Document.stamps l.doc ≡ g.D.Document.stamps l.fn.doc;
-      removed : g.D.Document.removed l.doc ≡ g.D.Document.removed l.fn.doc;
-      known : AreKnown (g.D.Document.stamps l.doc) (g.D.Document.rows l.doc);
-      over : AreOver (g.D.Document.rows l.doc) done (drop l.run-index l.runs);
-      next : AreNewOrdinals (g.D.Document.rows l.doc) (length (g.D.Document.stamps l.fn.doc) - 1) done;
-      places : KeepsPlaces (g.D.Document.rows l.fn.doc) (g.D.Document.rows l.doc);
-      room : Spends (g.D.Document.room l.fn.doc) (g.D.Document.room l.doc) 0 done 0;
-      left : (new : List Row) → ListsWithRuns (g.D.Document.stamps l.fn.doc) (g.D.Document.rows l.doc) new (drop l.run-index l.runs) → ListsWithRuns (g.D.Document.stamps l.fn.doc) (g.D.Document.rows l.fn.doc) new l.fn.runs;
+      same : l.doc.stamps ≡ l.fn.doc.stamps;
+      removed : removed_in l.doc ≡ removed_in l.fn.doc;
+      known : AreKnown (l.doc.stamps) (rows_in l.doc);
+      over : AreOver (rows_in l.doc) done (drop l.run-index l.runs);
+      next : AreNewOrdinals (rows_in l.doc) (length (l.fn.doc.stamps) - 1) done;
+      places : KeepsPlaces (rows_in l.fn.doc) (rows_in l.doc);
+      room : Spends (l.fn.doc.room) (l.doc.room) 0 done 0;
+      count : length l.doc.runs ≤ length l.fn.doc.runs + 2 * insertions_at (take l.run-index l.runs);
+      left : (new : List Row) → ListsWithRuns (l.fn.doc.stamps) (rows_in l.doc) new (drop l.run-index l.runs) → ListsWithRuns (l.fn.doc.stamps) (rows_in l.fn.doc) new l.fn.runs;
     }

@@ -4,44 +4,45 @@ use Rattle.braid_graph.specs.Ancestries.{IsLeastUnheld}
 use Rattle.braid_graph.specs.Frontiers.{frontier_of}
 use Rattle.braid_rebase.specs.Resolved.{IsRebaseFault}
 use Rattle.braid_text.specs.Puts.{total_len}
+use Rattle.braid_text.specs.Standing.{rows_in, removed_in}
 use Rattle.braid_text.proofs.Taking.{held_item, held_same, held_fits, not_contained, unknown_fits, past_fits, held_there, may, seen_there, need_is, over_fits, roomy, takable}
 use Rattle.braid_text.proofs.Grown.{few_elements}
 use Rattle.braid_text.proofs.history.History.judge.Goals as goal
 
 pub returns-in-Some-clause-refusal : goal.returns-in-Some-clause-refusal
-returns-in-Some-clause-refusal g c =
+returns-in-Some-clause-refusal c =
     let H = c.args.self.now.updates.items in
     let i = held_item H c.args.self.now.graph c.args.update.now c.index-held.result.now c.in-Some.n c.id.result.now c.requires.stands.graph c.in-Some.ensures.found c.id.ensures.value c.index-held.ensures in
     held_fits H c.requires.stands.legal c.in-Some.n c.index-held.result.now c.args.update.now i.0 i.1 c.args.room.now c.answer_held.result c.answer_held.ensures.answer
 
 pub returns-in-Some-clause-known : goal.returns-in-Some-clause-known
-returns-in-Some-clause-known g c = λ there.
+returns-in-Some-clause-known c = λ there.
     (let H = c.args.self.now.updates.items in
     let i = held_item H c.args.self.now.graph c.args.update.now c.index-held.result.now c.in-Some.n c.id.result.now c.requires.stands.graph c.in-Some.ensures.found c.id.ensures.value c.index-held.ensures in
     ap Err (c.answer_held.ensures.known (held_same H c.requires.stands.legal c.in-Some.n c.index-held.result.now c.args.update.now i.0 i.1 there)))
 
 pub returns-in-Some-least_unheld-clause-known : goal.returns-in-Some-least_unheld-clause-known
-returns-in-Some-least_unheld-clause-known g c = λ there. absurd (not_contained c.args.self.now.updates.items c.args.self.now.graph c.args.update.now c.requires.stands.graph (subst (λ (i : List ℕ). Holds c.args.self.now.graph i → ⊥) c.id.ensures.value c.in_default.ensures.none) there)
+returns-in-Some-least_unheld-clause-known c = λ there. absurd (not_contained c.args.self.now.updates.items c.args.self.now.graph c.args.update.now c.requires.stands.graph (subst (λ (i : List ℕ). Holds c.args.self.now.graph i → ⊥) c.id.ensures.value c.in_default.ensures.none) there)
 
 pub returns-in-Err-OutOfRange-clause-known : goal.returns-in-Err-OutOfRange-clause-known
-returns-in-Err-OutOfRange-clause-known g c = λ there. absurd (not_contained c.args.self.now.updates.items c.args.self.now.graph c.args.update.now c.requires.stands.graph (subst (λ (i : List ℕ). Holds c.args.self.now.graph i → ⊥) c.id.ensures.value c.in_default.ensures.none) there)
+returns-in-Err-OutOfRange-clause-known c = λ there. absurd (not_contained c.args.self.now.updates.items c.args.self.now.graph c.args.update.now c.requires.stands.graph (subst (λ (i : List ℕ). Holds c.args.self.now.graph i → ⊥) c.id.ensures.value c.in_default.ensures.none) there)
 
 pub returns-in-Err-Memory-clause-known : goal.returns-in-Err-Memory-clause-known
-returns-in-Err-Memory-clause-known g c = λ there. absurd (not_contained c.args.self.now.updates.items c.args.self.now.graph c.args.update.now c.requires.stands.graph (subst (λ (i : List ℕ). Holds c.args.self.now.graph i → ⊥) c.id.ensures.value c.in_default.ensures.none) there)
+returns-in-Err-Memory-clause-known c = λ there. absurd (not_contained c.args.self.now.updates.items c.args.self.now.graph c.args.update.now c.requires.stands.graph (subst (λ (i : List ℕ). Holds c.args.self.now.graph i → ⊥) c.id.ensures.value c.in_default.ensures.none) there)
 
 pub returns-in-Some-first_full-clause-known : goal.returns-in-Some-first_full-clause-known
-returns-in-Some-first_full-clause-known g c = λ there. absurd (not_contained c.args.self.now.updates.items c.args.self.now.graph c.args.update.now c.requires.stands.graph (subst (λ (i : List ℕ). Holds c.args.self.now.graph i → ⊥) c.id.ensures.value c.in_default.ensures.none) there)
+returns-in-Some-first_full-clause-known c = λ there. absurd (not_contained c.args.self.now.updates.items c.args.self.now.graph c.args.update.now c.requires.stands.graph (subst (λ (i : List ℕ). Holds c.args.self.now.graph i → ⊥) c.id.ensures.value c.in_default.ensures.none) there)
 
 pub returns-in-None-clause-known : goal.returns-in-None-clause-known
-returns-in-None-clause-known g c = λ there. absurd (not_contained c.args.self.now.updates.items c.args.self.now.graph c.args.update.now c.requires.stands.graph (subst (λ (i : List ℕ). Holds c.args.self.now.graph i → ⊥) c.id.ensures.value c.in_default.ensures.none) there)
+returns-in-None-clause-known c = λ there. absurd (not_contained c.args.self.now.updates.items c.args.self.now.graph c.args.update.now c.requires.stands.graph (subst (λ (i : List ℕ). Holds c.args.self.now.graph i → ⊥) c.id.ensures.value c.in_default.ensures.none) there)
 
 pub returns-in-Err-OutOfRange-clause-refusal : goal.returns-in-Err-OutOfRange-clause-refusal
-returns-in-Err-OutOfRange-clause-refusal g c =
+returns-in-Err-OutOfRange-clause-refusal c =
     let H = c.args.self.now.updates.items in
     let es = c.args.self.now.graph in
-    let vs = g.D.Document.stamps c.args.self.now.document in
-    let rows = g.D.Document.rows c.args.self.now.document in
-    let ds = g.D.Document.removed c.args.self.now.document in
+    let vs = c.args.self.now.document.stamps in
+    let rows = rows_in c.args.self.now.document in
+    let ds = removed_in c.args.self.now.document in
     let u = c.args.update.now in
     let stands = c.requires.stands in
     let new = subst (λ (i : List ℕ). Holds es i → ⊥) c.id.ensures.value c.in_default.ensures.none in
@@ -49,12 +50,12 @@ returns-in-Err-OutOfRange-clause-refusal g c =
     past_fits H es vs rows ds stands u new held c.in-Err-OutOfRange.patch c.in-Err-OutOfRange.len (subst (IsRebaseFault es ds rows u) c.in-Err-OutOfRange.field-0-is c.in-Err-OutOfRange.ensures.fault) c.args.room.now
 
 pub text_len-requires : goal.text_len-requires
-text_len-requires g c =
+text_len-requires c =
     let H = c.args.self.now.updates.items in
     let es = c.args.self.now.graph in
-    let vs = g.D.Document.stamps c.args.self.now.document in
-    let rows = g.D.Document.rows c.args.self.now.document in
-    let ds = g.D.Document.removed c.args.self.now.document in
+    let vs = c.args.self.now.document.stamps in
+    let rows = rows_in c.args.self.now.document in
+    let ds = removed_in c.args.self.now.document in
     let u = c.args.update.now in
     let stands = c.requires.stands in
     let new = subst (λ (i : List ℕ). Holds es i → ⊥) c.id.ensures.value c.in_default.ensures.none in
@@ -65,12 +66,12 @@ text_len-requires g c =
     record { few = omega (arith, few, ap total_len c.deref.ensures.value) }
 
 pub width_after-requires : goal.width_after-requires
-width_after-requires g c =
+width_after-requires c =
     let H = c.args.self.now.updates.items in
     let es = c.args.self.now.graph in
-    let vs = g.D.Document.stamps c.args.self.now.document in
-    let rows = g.D.Document.rows c.args.self.now.document in
-    let ds = g.D.Document.removed c.args.self.now.document in
+    let vs = c.args.self.now.document.stamps in
+    let rows = rows_in c.args.self.now.document in
+    let ds = removed_in c.args.self.now.document in
     let u = c.args.update.now in
     let stands = c.requires.stands in
     let new = subst (λ (i : List ℕ). Holds es i → ⊥) c.id.ensures.value c.in_default.ensures.none in
@@ -78,12 +79,12 @@ width_after-requires g c =
     record { held = subst (HoldsAll es) (sym c.parents-2.ensures.value) held }
 
 pub returns-in-Some-first_full-clause-refusal : goal.returns-in-Some-first_full-clause-refusal
-returns-in-Some-first_full-clause-refusal g c =
+returns-in-Some-first_full-clause-refusal c =
     let H = c.args.self.now.updates.items in
     let es = c.args.self.now.graph in
-    let vs = g.D.Document.stamps c.args.self.now.document in
-    let rows = g.D.Document.rows c.args.self.now.document in
-    let ds = g.D.Document.removed c.args.self.now.document in
+    let vs = c.args.self.now.document.stamps in
+    let rows = rows_in c.args.self.now.document in
+    let ds = removed_in c.args.self.now.document in
     let u = c.args.update.now in
     let stands = c.requires.stands in
     let new = subst (λ (i : List ℕ). Holds es i → ⊥) c.id.ensures.value c.in_default.ensures.none in
@@ -94,12 +95,12 @@ returns-in-Some-first_full-clause-refusal g c =
     over_fits H es vs rows ds stands u new held c.read_parts.ensures.named c.read_parts.ensures.rising c.read_parts.ensures.built c.in-Ok.resolved c.in-Ok.ensures.ok _ c.args.room.now c.in-Some-first_full.full need (sym c.in-Some-first_full.is ∙ c.first_full.ensures.full)
 
 pub returns-in-None-clause-ok : goal.returns-in-None-clause-ok
-returns-in-None-clause-ok g c =
+returns-in-None-clause-ok c =
     let H = c.args.self.now.updates.items in
     let es = c.args.self.now.graph in
-    let vs = g.D.Document.stamps c.args.self.now.document in
-    let rows = g.D.Document.rows c.args.self.now.document in
-    let ds = g.D.Document.removed c.args.self.now.document in
+    let vs = c.args.self.now.document.stamps in
+    let rows = rows_in c.args.self.now.document in
+    let ds = removed_in c.args.self.now.document in
     let u = c.args.update.now in
     let stands = c.requires.stands in
     let new = subst (λ (i : List ℕ). Holds es i → ⊥) c.id.ensures.value c.in_default.ensures.none in
@@ -107,12 +108,12 @@ returns-in-None-clause-ok g c =
     takable H es vs rows ds stands u new held c.read_parts.ensures.named c.read_parts.ensures.rising c.read_parts.ensures.built c.in-Ok.resolved c.in-Ok.ensures.ok c.in-Ok.ensures.level
 
 pub returns-in-None-clause-room : goal.returns-in-None-clause-room
-returns-in-None-clause-room g c =
+returns-in-None-clause-room c =
     let H = c.args.self.now.updates.items in
     let es = c.args.self.now.graph in
-    let vs = g.D.Document.stamps c.args.self.now.document in
-    let rows = g.D.Document.rows c.args.self.now.document in
-    let ds = g.D.Document.removed c.args.self.now.document in
+    let vs = c.args.self.now.document.stamps in
+    let rows = rows_in c.args.self.now.document in
+    let ds = removed_in c.args.self.now.document in
     let u = c.args.update.now in
     let stands = c.requires.stands in
     let new = subst (λ (i : List ℕ). Holds es i → ⊥) c.id.ensures.value c.in_default.ensures.none in
@@ -123,7 +124,7 @@ returns-in-None-clause-room g c =
     roomy H es vs rows ds stands u new held c.read_parts.ensures.named c.read_parts.ensures.rising c.read_parts.ensures.built c.in-Ok.resolved c.in-Ok.ensures.ok _ c.args.room.now need (sym c.in-None.is ∙ c.first_full.ensures.full)
 
 pub returns-in-Some-least_unheld-clause-refusal : goal.returns-in-Some-least_unheld-clause-refusal
-returns-in-Some-least_unheld-clause-refusal g c =
+returns-in-Some-least_unheld-clause-refusal c =
     let H = c.args.self.now.updates.items in
     let es = c.args.self.now.graph in
     let u = c.args.update.now in
@@ -133,7 +134,7 @@ returns-in-Some-least_unheld-clause-refusal g c =
     c.args.room.now c.unknown_parent.result c.unknown_parent.ensures.names
 
 pub returns-in-Err-Memory-clause-refusal : goal.returns-in-Err-Memory-clause-refusal
-returns-in-Err-Memory-clause-refusal g c = (
+returns-in-Err-Memory-clause-refusal c = (
   λ there. not_contained c.args.self.now.updates.items c.args.self.now.graph c.args.update.now c.requires.stands.graph (subst (λ (i : List ℕ). Holds c.args.self.now.graph i → ⊥) c.id.ensures.value c.in_default.ensures.none) there,
   λ e. (cc),
 )

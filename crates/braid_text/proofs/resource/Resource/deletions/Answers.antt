@@ -5,4 +5,4 @@ use Rattle.braid_text.proofs.Taking.{deletions_kept}
 use Rattle.braid_text.proofs.resource.Resource.deletions.Goals as goal
 
 pub returns : goal.returns
-returns c = record { count = c.deletions.ensures.count ∙ deletions_kept _ _ _ _ _ c.self.invariant ∙ ap (λ (H : List UpdateView). length (deletions_of H)) c.self.view_is }
+returns c = record { count = c.deletions.ensures.count ∙ deletions_kept _ _ _ _ _ c.self.invariant.0 ∙ ap (λ (H : List UpdateView). length (deletions_of H)) c.self.view_is }

@@ -5,4 +5,4 @@ use Rattle.braid_text.proofs.Taking.{elements_kept}
 use Rattle.braid_text.proofs.resource.Resource.elements.Goals as goal
 
 pub returns : goal.returns
-returns c = record { count = c.elements.ensures.count ∙ elements_kept _ _ _ _ _ c.self.invariant ∙ ap (λ (H : List UpdateView). length (elements_of H)) c.self.view_is }
+returns c = record { count = c.elements.ensures.count ∙ elements_kept _ _ _ _ _ c.self.invariant.0 ∙ ap (λ (H : List UpdateView). length (elements_of H)) c.self.view_is }
