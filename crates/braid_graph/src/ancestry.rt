@@ -131,7 +131,7 @@ impl Graph {
         ensures ends { AreEnds self.now ends.new }
         ensures reached { ReachesMore self.now ends.old ends.new (IsParentNumber self.now n) }
     {
-        for parent in &self.links[n as usize].parents {
+        for parent in self.links[n as usize].parents.as_slice() {
             self.reach(*parent, ends);
         }
     }

@@ -13,6 +13,7 @@ use crate::heads::Heads;
 use crate::links::Links;
 use braid_ids::{Frontier, Id, Memory};
 use indexmap::IndexMap;
+use smallvec::SmallVec;
 use std::alloc::Global;
 use std::marker::Model;
 
@@ -71,7 +72,7 @@ impl Graph {
         self.heads.add()?;
         // From here on nothing can fail.
         begin_run(&mut self.starts, links.run, number);
-        self.heads.clear_all(&links.parents);
+        self.heads.clear_all(links.parents.as_slice());
         let Ok(_) = self.links.push(links) else {
             unreachable!()
         };
@@ -88,7 +89,7 @@ impl Graph {
         ensures parents { IfOk result (λ links. AllZip (IsNumberOf self.now) parents.now links.parents.items) }
         ensures run { IfOk result (λ links. IsRunAfter self.now parents.now links.run) }
     {
-        let mut numbers = Vec::with_capacity(self.alloc, parents.len() as usize)?;
+        let mut numbers = SmallVec::new(self.alloc);
         let mut greatest = 0;
         for i in 0..parents.len() {
             let Some(id) = parents.get(i) else {
@@ -100,7 +101,7 @@ impl Graph {
             numbers.push(n)?;
             greatest = greatest.max(self.level(n));
         }
-        let run = self.run_after(&numbers);
+        let run = self.run_after(numbers.as_slice());
         Ok(Links {
             parents: numbers,
             level: greatest + 1,

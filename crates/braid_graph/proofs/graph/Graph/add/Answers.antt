@@ -15,17 +15,17 @@ clear_all-requires c =
     let es = entries_in in'.entries.entries in
     let k = c.in_ok-links.links in
     let z = subst (λ (t : List GraphEntry). AllZip (IsNumberOf t) c.args.parents k.parents.items) (sym c.self.view_is) c.in_ok-links.ensures.parents in
-    record { within = numbers_below es in'.links.items in'.heads c.add.new.self c.args.parents k.parents.items c.deref.result.now c.self.invariant.kept c.in_ok-add.ensures.ok z c.deref.ensures.value }
+    record { within = numbers_below es in'.links.items in'.heads c.add.new.self c.args.parents k.parents.items c.as_slice.result.now c.self.invariant.kept c.in_ok-add.ensures.ok z c.as_slice.ensures }
 
 pub invariant_of-self-2 : goal.invariant_of-self-2
 invariant_of-self-2 c =
     let in' = c.self.inside in
     let k = c.in_ok-links.links in
-    let kept = add_kept c.args.self.now in'.entries.entries c.insert.new.self.entries c.args.id c.args.parents in'.links.items c.push.new.self.items k in'.heads c.add.new.self c.clear_all.new.self c.deref.result.now
+    let kept = add_kept c.args.self.now in'.entries.entries c.insert.new.self.entries c.args.id c.args.parents in'.links.items c.push.new.self.items k in'.heads c.add.new.self c.clear_all.new.self c.as_slice.result.now
     c.self.view_is c.self.invariant.kept c.requires.new c.requires.held c.requires.few c.in_ok-links.ensures.level c.in_ok-links.ensures.parents
     (c.in-Ok-insert.ensures.entries ∙ ap (λ (t : _). insert_entry (pointwise nat_eq) t c.args.id c.args.parents) c.in_ok-reserve.ensures.entries)
     (c.in-Ok.ensures.items ∙ ap (λ (t : _). t ++ k ∷ []) c.in_ok-reserve-2.ensures.items)
-    c.in_ok-add.ensures.ok c.deref.ensures.value c.clear_all.ensures.cleared in
+    c.in_ok-add.ensures.ok c.as_slice.ensures c.clear_all.ensures.cleared in
     record {
       kept = kept;
       runs = add_runs c.args.self.now (entries_in in'.entries.entries) (entries_in c.insert.new.self.entries) in'.links.items c.push.new.self.items in'.heads in'.starts.items c.begin_run.new.starts.items (record { id = c.args.id; parents = c.args.parents }) k c.len-number.result

@@ -17,7 +17,7 @@ loop-i-preserved c =
     record {
       small = omega (arith, most, c.level.ensures.small, c.in-Some-index_of.ensures.few);
       greatest = most ∙ greatest_next es ps i id n c.loop-i.greatest c.level.result c.loop-i.invariant.greatest at is c.level.ensures.level;
-      numbers = rw c.in_ok-push.ensures.items (numbers_next es ps c.loop-i.numbers.items i id n c.loop-i.invariant.numbers at is);
+      numbers = rw c.in_ok-push.ensures.ok (numbers_next es ps c.loop-i.numbers.items i id n c.loop-i.invariant.numbers at is);
     }
 
 pub level-requires : goal.level-requires

@@ -19,12 +19,12 @@ index-requires c =
 pub reach-requires-clause-within : goal.reach-requires-clause-within
 reach-requires-clause-within c =
     let in' = c.self.inside in
-    let ns = c.deref-parent-items.result.now in
-    parent_small c.args.self.now (entries_in in'.entries.entries) in'.links.items in'.heads c.args.n c.index.result.now ns c.loop-parent.parent-index c.self.view_is c.self.invariant.kept c.requires.within c.index.ensures c.deref-parent-items.ensures.value (omega arith)
+    let ns = c.as_slice-parent-items.result.now in
+    parent_small c.args.self.now (entries_in in'.entries.entries) in'.links.items in'.heads c.args.n c.index.result.now ns c.loop-parent.parent-index c.self.view_is c.self.invariant.kept c.requires.within c.index.ensures c.as_slice-parent-items.ensures (omega arith)
 
 pub loop-parent-preserved : goal.loop-parent-preserved
 loop-parent-preserved c =
-    let ns = c.deref-parent-items.result.now in
+    let ns = c.as_slice-parent-items.result.now in
     let i = c.loop-parent.parent-index in
     record {
       fits = c.reach.ensures.ends;
@@ -35,8 +35,8 @@ pub returns-clause-reached : goal.returns-clause-reached
 returns-clause-reached c =
     let in' = c.self.inside in
     let es = c.args.self.now in
-    let ns = c.deref-parent-items.result.now in
+    let ns = c.as_slice-parent-items.result.now in
     let i = c.loop-parent.parent-index in
-    let all : take i ns ≡ c.index.result.now.parents.items = take_all i ns (omega arith) ∙ c.deref-parent-items.ensures.value in
+    let all : take i ns ≡ c.index.result.now.parents.items = take_all i ns (omega arith) ∙ c.as_slice-parent-items.ensures in
     let both = parents_kept es (entries_in in'.entries.entries) in'.links.items in'.heads c.args.n c.index.result.now c.self.view_is c.self.invariant.kept c.requires.within c.index.ensures in
     more_same es c.args.ends.now c.loop-parent.ends (Contains (take i ns)) (IsParentNumber es c.args.n) (λ m. subst (λ (t : List ℕ). Contains t m ↔ IsParentNumber es c.args.n m) (sym all) (both m)) c.loop-parent.invariant.so_far
