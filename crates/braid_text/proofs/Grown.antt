@@ -20,8 +20,7 @@ use Rattle.braid_tree.specs.Trees.{Member, IsWithout, AreNewKeys}
 use Rattle.braid_tree.specs.Rows.{Stamp, Row, HasPlace, IsKnownRow, AreKnown, element_at, key_at, key_by, place}
 use Rattle.braid_tree.specs.Rows.{RowDeletion}
 use Rattle.braid_tree.specs.Seen.{is_seen_by, place_in}
-use Rattle.braid_tree.proofs.Callers.{listed_begin, next_key_begin, own_filter, own_listed}
-use Rattle.braid_tree.specs.Inside.{HaveOwnPlaces}
+use Rattle.braid_tree.proofs.Callers.{listed_begin, next_key_begin}
 use Rattle.braid_tree.proofs.KeptRows.{known_place}
 use Rattle.braid_tree.proofs.Links.{get_append, get_end}
 use Rattle.braid_tree.proofs.Member.{all_member, all_from_members}
@@ -36,14 +35,13 @@ use Rattle.braid_rebase.proofs.Filtered.{member_filter}
 use Rattle.braid_text.specs.Versions.{Version, has_version}
 use Rattle.braid_text.specs.Histories.{MayFollow, graph_of, entry_of, versions_at, added_by, document_of, seen_at, text_at, deletions_by, deletions_of}
 use Rattle.braid_text.specs.Answers.{needs_of}
-use Rattle.braid_text.specs.Puts.{Puts, ListsWithRuns, AreOver, AreThere, AreDifferent, text_len, total_len, deletion_by}
+use Rattle.braid_text.specs.Puts.{Puts, ListsWithRuns, AreOver, AreThere, text_len, total_len, deletion_by}
 use Rattle.braid_text.specs.Standing.{Stands, stamp_in, stamps_of, id_at, named_deletion, IsKnownDeletion}
 use Rattle.braid_text.proofs.Held.{new_in}
 use Rattle.braid_text.proofs.Whole.{IsWhole, seen_member, seen_under}
 use Rattle.braid_text.proofs.Public.{legal_more, versions_more, document_more, deletions_more, level_more, needs_elements}
 use Rattle.braid_rebase.proofs.Spliced.{ranges_within}
 use Rattle.braid_rebase.proofs.Members.{contains_member, member_contains}
-use Rattle.braid_text.proofs.Putting.{different_cut, different_places}
 use Rattle.braid_text.proofs.Viewed.{whole, seen_listed, all_place}
 
 -- every item of a cut of a list is one of the list
@@ -159,12 +157,6 @@ module _ (H : List UpdateView) (es : List GraphEntry) (vs : List Stamp) (rows : 
 
     pub deletes_there : AreThere rows resolved.deletes.items
     deletes_there = subst (AreThere rows) (sym is.deletes) (all_places (HasPlace rows) (places_of S) (row_ranges S u.change) there)
-
-    pub deletes_differ : AreDifferent resolved.deletes.items
-    deletes_differ = subst AreDifferent (sym is.deletes) (different_cut (places_of S) (row_ranges S u.change) 0 (length N) (different_places S own) (subst (AreRanges 0 (length N)) (sym same_ranges) (ranges_within N u.change shaped)))
-      where
-        own : HaveOwnPlaces S
-        own = subst HaveOwnPlaces (sym seen.seen) (own_filter (is_seen_by seen.marks ds) rows (own_listed vs rows (document_of H) stands.listed (whole H es vs rows ds stands).tree.distinct))
 
     pub runs_there : AreOver rows 0 resolved.runs.items
     runs_there = subst (AreOver rows 0) (sym is.runs) (runs_over rows (places_of S) 0 (row_ranges S u.change) there)

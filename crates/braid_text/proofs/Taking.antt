@@ -31,13 +31,13 @@ use Rattle.braid_text.specs.declared.room.Which.{Which}
 use Rattle.braid_text.specs.Histories.{IsLegal, MayFollow, graph_of, entry_of, text_at, document_of, elements_of, deletions_of}
 use Rattle.braid_text.specs.Answers.{needs_of, first_full, HasRoom, IsAnswer, IsOver}
 use Rattle.braid_text.specs.Judging.{IsHeldAnswer, NamesParent}
-use Rattle.braid_text.specs.Puts.{AreOver, AreThere, AreDifferent, ListsWithRuns, total_len, deletion_by}
+use Rattle.braid_text.specs.Puts.{AreOver, AreThere, ListsWithRuns, total_len, deletion_by}
 use Rattle.braid_text.specs.Standing.{Stands, IsTakable, named_deletion}
 use Rattle.braid_text.proofs.Held.{one_update}
 use Rattle.braid_text.proofs.Logs.{has_holds}
 use Rattle.braid_text.proofs.Answered.{IsOverAnswer, over_is}
 use Rattle.braid_text.proofs.Public.{may_follow, width_after, document_counted}
-use Rattle.braid_text.proofs.Grown.{rows_read, elements_needed, deletions_needed, few_elements, runs_there, deletes_there, deletes_differ, stands_next}
+use Rattle.braid_text.proofs.Grown.{rows_read, elements_needed, deletions_needed, few_elements, runs_there, deletes_there, stands_next}
 use Rattle.braid_text.proofs.Viewed.{stamps_length}
 
 pub member_number : {A : Type 0} (xs : List A) (n : ℕ) (x : A) → slice_get xs n ≡ Some x → Member x xs
@@ -194,12 +194,6 @@ module _ (H : List UpdateView) (es : List GraphEntry) (vs : List Stamp) (rows : 
 
   pub deletes_kept : (rows' : List Row) → rows' ≡ rows → AreThere rows' resolved.deletes.items
   deletes_kept rows' e = subst (λ (x : List Row). AreThere x resolved.deletes.items) (sym e) (deletes_there H es vs rows ds stands u parents_there t.seen.0 t.seen.1 t.follows resolved t.seen.2)
-
-  pub deletes_apart : AreDifferent resolved.deletes.items
-  deletes_apart = deletes_differ H es vs rows ds stands u parents_there t.seen.0 t.seen.1 t.follows resolved t.seen.2
-
-  pub deletions_known : (ds1 : List RowDeletion) (vs1 : List Stamp) → ds1 ≡ ds → vs1 ≡ vs → (d : RowDeletion) → Contains ds1 d → d.by < length vs1
-  deletions_known ds1 vs1 e f d c = subst (λ (x : List Stamp). d.by < length x) (sym f) (stands.known_deletions d (subst (λ (x : List RowDeletion). Contains x d) e c)).1
 
   -- what is kept once the update is taken
   pub stands_after : (H' : List UpdateView) (es' : List GraphEntry) (vs1 vs' : List Stamp) (rows1 rows' : List Row) (ds1 ds' : List RowDeletion) (i name : List ℕ) (ps : List (List ℕ))

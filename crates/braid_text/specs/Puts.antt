@@ -36,11 +36,6 @@ AreOver rows n (run ∷ runs) = MatchOption run.after (Unit {0}) (HasPlace rows)
 abbrev pub AreThere : List Row → List At → Type 0
 AreThere rows places = AllByRecursion (HasPlace rows) places
 
--- no place comes twice
-abbrev pub AreDifferent : List At → Type 0
-AreDifferent [] = Unit {0}
-AreDifferent (at ∷ places) = ¬ (Member at places) × AreDifferent places
-
 -- the version with this number deletes the element at a place
 abbrev pub deletion_by : ℕ → At → RowDeletion
 deletion_by n at = record { at = at; by = n }

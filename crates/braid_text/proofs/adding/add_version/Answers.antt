@@ -1,12 +1,11 @@
-use Rattle.std.proofs.Common.{◌≡◌, ◌-◌, ◌<◌, ◌++◌, ◌∷◌, [], List, length, map, subst, sym, ap, ◌∙◌, arith, length-append}
-use Rattle.std.specs.List.{Contains}
+use Rattle.std.proofs.Common.{◌≡◌, ℕ, ◌-◌, ◌<◌, ◌++◌, ◌∷◌, [], List, IsSomeAnd, length, map, slice_get, subst, sym, ap, ◌∙◌, arith, length-append}
 use Rattle.std.specs.List.Sorted.{IsPermutation}
 use Rattle.braid_tree.specs.declared.at.At.{At}
-use Rattle.braid_tree.specs.Rows.{Stamp, Row, RowDeletion, AreNewOrdinals}
+use Rattle.braid_tree.specs.Rows.{Stamp, Row, RowDeletion, HasPlace, AreNewOrdinals}
 use Rattle.braid_tree.proofs.Callers.{next_begin}
 use Rattle.braid_text.specs.Puts.{AreThere, deletion_by}
 use Rattle.braid_text.specs.Standing.{rows_in, removed_in}
-use Rattle.braid_text.proofs.Putting.{there_more}
+use Rattle.braid_text.proofs.Putting.{there_more, there_at}
 use Rattle.braid_text.proofs.adding.add_version.Goals as goal
 
 pub put_runs-requires-clause-next : goal.put_runs-requires-clause-next
@@ -16,17 +15,13 @@ put_runs-requires-clause-next c =
 
 pub delete_all-requires-clause-there : goal.delete_all-requires-clause-there
 delete_all-requires-clause-there c =
-    subst (λ (places : List At). AreThere (rows_in c.put_runs.new.doc) places) (sym c.deref-2.ensures.value)
+    subst (λ (places : List At). (i : ℕ) → i < length places → IsSomeAnd (slice_get places i) (HasPlace (rows_in c.put_runs.new.doc))) (sym c.deref-2.ensures.value)
+    (there_at (rows_in c.put_runs.new.doc) c.args.resolved.now.deletes.items
     (there_more (rows_in c.begin.new.self) (rows_in c.put_runs.new.doc) c.args.resolved.now.deletes.items c.put_runs.ensures.places
-    (subst (λ (rows : List Row). AreThere rows c.args.resolved.now.deletes.items) (sym c.begin.ensures.rows) c.requires.there))
-
-pub delete_all-requires-clause-fresh : goal.delete_all-requires-clause-fresh
-delete_all-requires-clause-fresh c = λ d there last.
-    (let l : d.by < length (c.args.doc.now.stamps) = c.requires.fresh d (subst (λ (ds : List RowDeletion). Contains ds d) (c.put_runs.ensures.deletions ∙ c.begin.ensures.deletions) there) in
-    absurd (omega (arith, l, last, ap length c.put_runs.ensures.stamps, ap length c.begin.ensures.stamps, length-append (c.args.doc.now.stamps) (record { id = c.args.id; level = c.args.resolved.now.level } ∷ []))))
+    (subst (λ (rows : List Row). AreThere rows c.args.resolved.now.deletes.items) (sym c.begin.ensures.rows) c.requires.there)))
 
 pub returns-clause-deletions : goal.returns-clause-deletions
 returns-clause-deletions c =
     let number : length (c.put_runs.new.doc.stamps) - 1 ≡ length (c.args.doc.now.stamps) = omega (arith, ap length c.put_runs.ensures.stamps, ap length c.begin.ensures.stamps, length-append (c.args.doc.now.stamps) (record { id = c.args.id; level = c.args.resolved.now.level } ∷ [])) in
     let before : removed_in c.put_runs.new.doc ≡ removed_in c.args.doc.now = c.put_runs.ensures.deletions ∙ c.begin.ensures.deletions in
-    subst (λ (ds : List RowDeletion). IsPermutation ds (removed_in c.delete_all.new.doc)) (λ i. before i ++ map (deletion_by (number i)) (c.deref-2.ensures.value i)) c.delete_all.ensures.deletions
+    subst (λ (ds : List RowDeletion). IsPermutation ds (removed_in c.delete_all.new.self)) (λ i. before i ++ map (deletion_by (number i)) (c.deref-2.ensures.value i)) c.delete_all.ensures.deletions

@@ -1,7 +1,7 @@
 use Rattle.std.proofs.Common.{◌++◌, ◌∷◌, [], arith, ap, ◌∙◌}
 use Rattle.braid_text.specs.Puts.{total_len}
 use Rattle.braid_text.specs.Standing.{rows_in, removed_in}
-use Rattle.braid_text.proofs.Taking.{versions_kept, elements_kept, deletions_kept, fresh_there, parents_kept, deletions_taken, elements_taken, few_taken, over_there, deletes_kept, deletes_apart, deletions_known, stands_after}
+use Rattle.braid_text.proofs.Taking.{versions_kept, elements_kept, deletions_kept, fresh_there, parents_kept, deletions_taken, elements_taken, few_taken, over_there, deletes_kept, stands_after}
 use Rattle.braid_text.proofs.history.History.prepare.Goals as goal
 
 pub text_len-requires : goal.text_len-requires

@@ -2,7 +2,7 @@ use Rattle.std.proofs.Common.{◌++◌, ◌∷◌, [], length, arith, ap, refl, 
 use Rattle.braid_text.specs.Puts.{total_len}
 use Rattle.braid_text.specs.Standing.{rows_in, removed_in}
 use Rattle.braid_text.proofs.Insertions.{insertions_resolved}
-use Rattle.braid_text.proofs.Taking.{versions_kept, elements_kept, deletions_kept, fresh_there, parents_kept, deletions_taken, elements_taken, few_taken, over_there, deletes_kept, deletes_apart, deletions_known, stands_after}
+use Rattle.braid_text.proofs.Taking.{versions_kept, elements_kept, deletions_kept, fresh_there, parents_kept, deletions_taken, elements_taken, few_taken, over_there, deletes_kept, stands_after}
 use Rattle.braid_text.proofs.history.History.take.Goals as goal
 
 pub add_version-requires-clause-over : goal.add_version-requires-clause-over
@@ -28,30 +28,6 @@ add_version-requires-clause-there c =
     let stands = c.requires.stands in
     let t = c.requires.takable in
     deletes_kept H es vs rows ds stands u c.args.resolved t (rows_in c.prepare.new.self.document) c.prepare.ensures.rows
-
-pub add_version-requires-clause-distinct : goal.add_version-requires-clause-distinct
-add_version-requires-clause-distinct c =
-    let H = c.args.self.now.updates.items in
-    let es = c.args.self.now.graph in
-    let vs = c.args.self.now.document.stamps in
-    let rows = rows_in c.args.self.now.document in
-    let ds = removed_in c.args.self.now.document in
-    let u = c.args.update in
-    let stands = c.requires.stands in
-    let t = c.requires.takable in
-    deletes_apart H es vs rows ds stands u c.args.resolved t
-
-pub add_version-requires-clause-fresh : goal.add_version-requires-clause-fresh
-add_version-requires-clause-fresh c =
-    let H = c.args.self.now.updates.items in
-    let es = c.args.self.now.graph in
-    let vs = c.args.self.now.document.stamps in
-    let rows = rows_in c.args.self.now.document in
-    let ds = removed_in c.args.self.now.document in
-    let u = c.args.update in
-    let stands = c.requires.stands in
-    let t = c.requires.takable in
-    deletions_known H es vs rows ds stands u c.args.resolved t (removed_in c.prepare.new.self.document) (c.prepare.new.self.document.stamps) c.prepare.ensures.removed c.prepare.ensures.stamps
 
 pub returns-clause-stands : goal.returns-clause-stands
 returns-clause-stands c =
