@@ -33,8 +33,7 @@ ends_cut (byte ∷ bytes) = go (list_all is_blank (byte ∷ bytes)) refl (ends_c
 
 pub trimmed_padded : (bytes : List ℕ) → IsPadded (trimmed bytes) bytes
 trimmed_padded bytes =
-    both_ends bytes (after is_blank bytes) (trimmed bytes)
-    (record { blanks = front_of is_blank bytes; are_blank = front_passes is_blank bytes; stops = after_stops is_blank bytes; cut = sym (front_after is_blank bytes) }) (ends_cut (after is_blank bytes))
+    both_ends bytes (after is_blank bytes) (trimmed bytes) refl (ends_cut (after is_blank bytes))
 
 name_is : (name : List ℕ) → is_name name ≡ true → IsName name
 name_is name e = let p = and_parts _ (list_all is_in_name name) e in record { some = ltb-true 0 (length name) p.0; bytes = all_are is_in_name name p.1 }

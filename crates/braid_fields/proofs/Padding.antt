@@ -7,7 +7,7 @@ use Rattle.braid_shelf.specs.Reading.{front_of, after}
 use Rattle.braid_shelf.proofs.Passing.{front_after, front_passes, after_stops, after_is, Are-append}
 use Rattle.braid_fields.specs.Fields.{IsPadded}
 use Rattle.braid_fields.specs.Lines.{ends}
-use Rattle.braid_fields.specs.Cuts.{FollowsBlanks, EndsInBlanks}
+use Rattle.braid_fields.specs.Cuts.{EndsInBlanks}
 
 pub all_are : (test : ℕ → Bool) (bytes : List ℕ) → list_all test bytes ≡ true → Are test bytes
 all_are test [] e = tt
@@ -73,16 +73,16 @@ begins_front test [] rest e = refl
 begins_front test (byte ∷ front) rest e = e
 
 -- passing over both ends
-pub both_ends : (bytes rest value : List ℕ) → FollowsBlanks bytes rest → EndsInBlanks rest value → IsPadded value bytes
-both_ends bytes rest value f e =
+pub both_ends : (bytes rest value : List ℕ) → rest ≡ after is_blank bytes → EndsInBlanks rest value → IsPadded value bytes
+both_ends bytes rest value same e =
     record {
-      before = f.blanks;
+      before = front_of is_blank bytes;
       after = e.blanks;
-      before_blank = f.are_blank;
+      before_blank = front_passes is_blank bytes;
       after_blank = e.are_blank;
-      begins_so = begins_front is_blank value e.blanks (subst (λ x. begins is_blank x ≡ false) e.cut f.stops);
+      begins_so = begins_front is_blank value e.blanks (subst (λ x. begins is_blank x ≡ false) e.cut (ap (begins is_blank) same ∙ after_stops is_blank bytes));
       ends_so = e.stops;
-      spelled = f.cut ∙ ap (λ x. f.blanks ++ x) e.cut;
+      spelled = sym (front_after is_blank bytes) ∙ ap (λ x. front_of is_blank bytes ++ x) (sym same ∙ e.cut);
     }
 
 -- bytes that are so far followed by spaces and tabs alone
@@ -103,14 +103,4 @@ behind_end bytes rest front last e h b =
       are_blank = b.are_blank;
       stops = ap (ends is_blank) e ∙ ends_last is_blank front last ∙ h;
       cut = b.cut;
-    }
-
-pub passed_before : (bytes rest : List ℕ) (count : ℕ) → count ≡ prefix_len is_blank bytes → rest ≡ drop count bytes → FollowsBlanks bytes rest
-passed_before bytes rest count c r =
-    let same : rest ≡ after is_blank bytes = r ∙ ap (λ n. drop n bytes) c in
-    record {
-      blanks = front_of is_blank bytes;
-      are_blank = front_passes is_blank bytes;
-      stops = ap (begins is_blank) same ∙ after_stops is_blank bytes;
-      cut = sym (front_after is_blank bytes) ∙ ap (λ x. front_of is_blank bytes ++ x) (sym same);
     }

@@ -1,14 +1,7 @@
--- What is left of bytes at whose ends something is passed over.
+-- What is left of bytes at whose end something is passed over.
 use Rattle.std.specs.Prelude.{◌≡◌, ◌≢◌, ℕ, ◌⊎◌, false, List, [], ◌∷◌, ◌++◌}
-use Rattle.braid_shelf.specs.ByteClasses.{Are, begins, is_blank}
+use Rattle.braid_shelf.specs.ByteClasses.{Are, is_blank}
 use Rattle.braid_fields.specs.Lines.{ends}
-
--- what follows the spaces and tabs that bytes begin with
-pub record FollowsBlanks (bytes rest : List ℕ) : Type 0 where
-  pub blanks : List ℕ
-  pub are_blank : Are is_blank blanks
-  pub stops : begins is_blank rest ≡ false
-  pub cut : bytes ≡ blanks ++ rest
 
 -- what stands before the spaces and tabs that bytes end with
 pub record EndsInBlanks (bytes front : List ℕ) : Type 0 where

@@ -1,12 +1,13 @@
 //! Field lines: a name, a colon and a value.
 
-ghost use Rattle.std.specs.Prelude.{◌≡◌, ◌≤◌, ◌↔◌, List, ℕ, length, MatchOption, IsTrue, option_map};
-ghost use Rattle.std.specs.List.{list_all, prefix_len};
+ghost use Rattle.std.specs.Prelude.{◌≡◌, ◌↔◌, List, ℕ, MatchOption, IsTrue, option_map};
+ghost use Rattle.std.specs.List.{list_all};
 ghost use Rattle.braid_shelf.specs.ByteClasses.{is_blank};
-ghost use Rattle.braid_fields.specs.Fields.{is_in_name, IsName, is_in_value, IsPadded, IsField, field_of};
-ghost use Rattle.braid_fields.specs.Cuts.{FollowsBlanks, EndsInBlanks, CutsEnd};
+ghost use Rattle.braid_fields.specs.Fields.{is_in_name, IsName, is_in_value, IsPadded, trimmed, IsField, field_of};
+ghost use Rattle.braid_fields.specs.Cuts.{EndsInBlanks, CutsEnd};
 
 use braid_ids::split_at_byte;
+use braid_shelf::after_blanks;
 
 /// Whether a name may have the byte.
 fn is_in_name(byte: u8) -> bool
@@ -53,22 +54,6 @@ fn is_blank(byte: u8) -> bool
     byte == b' ' || byte == b'\t'
 }
 
-/// The number of spaces and tabs that the bytes begin with.
-fn blanks_len(bytes: &[u8]) -> usize
-    ensures count { result ≡ prefix_len is_blank bytes.now }
-    ensures within { result ≤ length bytes.now }
-{
-    bytes.iter().take_while(|byte| is_blank(**byte)).count()
-}
-
-/// The bytes after the spaces and tabs that they begin with.
-fn without_blanks_before(bytes: &[u8]) -> &[u8]
-    ensures { FollowsBlanks bytes.now result.now }
-{
-    let (_, rest) = bytes.split_at(blanks_len(bytes));
-    rest
-}
-
 /// The bytes before the spaces and tabs that they end with.
 fn without_blanks_behind(bytes: &[u8]) -> &[u8]
     ensures { EndsInBlanks bytes.now result.now }
@@ -83,11 +68,12 @@ fn without_blanks_behind(bytes: &[u8]) -> &[u8]
     rest
 }
 
-/// The bytes without the spaces and tabs at both ends.
-fn trimmed(bytes: &[u8]) -> &[u8]
-    ensures { IsPadded result.now bytes.now }
+/// The bytes without the spaces and tabs at both ends. It takes no memory.
+pub fn trimmed(bytes: &[u8]) -> &[u8]
+    ensures value { result.now ≡ trimmed bytes.now }
+    ensures padded { IsPadded result.now bytes.now }
 {
-    without_blanks_behind(without_blanks_before(bytes))
+    without_blanks_behind(after_blanks(bytes))
 }
 
 /// The name and the value of a field line without its end.

@@ -1,34 +1,21 @@
 //! The length of a content.
 
-ghost use Rattle.std.specs.Prelude.{◌≡◌, ◌≤◌, ◌<◌, ◌^◌, length, unwrap_or};
+ghost use Rattle.std.specs.Prelude.{◌≡◌, unwrap_or};
 ghost use Rattle.std.specs.List.{list_all};
-ghost use Rattle.std.specs.Str.Parse.{digits_value};
-ghost use Rattle.braid_shelf.specs.ByteClasses.{Are, is_digit};
+ghost use Rattle.braid_shelf.specs.ByteClasses.{is_digit};
 ghost use Rattle.braid_fields.specs.Values.{are_length_digits, length_in_value};
 ghost use Rattle.braid_fields.specs.Table.{first_row, told, length_of};
 ghost use Rattle.braid_fields.specs.Rows.{told_rows, len_rows, length_rows};
 
 use crate::reason::Reason;
 use braid_ids::ListBytes;
+use braid_shelf::digits_value;
 
 /// The most digits of a length.
 const MOST_DIGITS: usize = 15;
 
 /// The most bytes of all contents of an update.
 const LONGEST: u64 = 1_048_576;
-
-/// The number that digits write.
-fn number(digits: &[u8]) -> u64
-    requires digits { Are is_digit digits.now }
-    requires few { length digits.now ≤ 15 }
-    ensures value { result ≡ digits_value 10 digits.now }
-{
-    let mut number = 0;
-    for digit in digits {
-        number = number * 10 + u64::from(*digit - b'0');
-    }
-    number
-}
 
 /// Whether each of the bytes is a digit.
 fn are_digits(bytes: &[u8]) -> bool
@@ -37,8 +24,8 @@ fn are_digits(bytes: &[u8]) -> bool
     bytes.iter().all(|byte| byte.is_ascii_digit())
 }
 
-/// Whether a value is 1 to 15 digits.
-fn are_length_digits(value: &[u8]) -> bool
+/// Whether a value is 1 to 15 digits. It takes no memory.
+pub fn are_length_digits(value: &[u8]) -> bool
     ensures { result ≡ are_length_digits value.now }
 {
     1 <= value.len() && value.len() <= MOST_DIGITS && are_digits(value)
@@ -52,7 +39,7 @@ fn read_length(value: &[u8]) -> Option<u64>
     if !are_length_digits(value) {
         return None;
     }
-    Some(number(value))
+    Some(digits_value(value))
 }
 
 /// The length that the line of `Content-Length` tells.

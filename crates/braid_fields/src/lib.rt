@@ -31,8 +31,9 @@ mod reason;
 mod status;
 
 pub use checks::{is_encoded, is_other_merge_type};
-pub use field::read_field;
+pub use field::{read_field, trimmed};
 pub use head::{plan_head, plan_put};
+pub use length::are_length_digits;
 pub use line::is_empty_line;
 pub use names::list_ids;
 pub use parts::{HeadFields, Parts};

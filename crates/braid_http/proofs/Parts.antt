@@ -3,10 +3,6 @@ use Rattle.std.proofs.Common.{◌≡◌, ◌≢◌, ℕ, ◌==◌, ◌||◌, Boo
 use Rattle.std.specs.List.{list_any}
 use Rattle.std.proofs.lemmas.Bool.Decides.{nat_tests}
 use Rattle.braid_ids.specs.Lists.{Lacks}
-use Rattle.braid_fields.specs.Fields.{trimmed}
-use Rattle.braid_fields.specs.Cuts.{FollowsBlanks, EndsInBlanks}
-use Rattle.braid_fields.proofs.Padding.{both_ends, padded_same}
-use Rattle.braid_fields.proofs.Computed.{trimmed_padded}
 use Rattle.braid_http.specs.Framings.{parts_of, is_close}
 use Rattle.std.proofs.Common.{arith}
 
@@ -22,9 +18,6 @@ one_part (x ∷ rest) h = rw (apart x h.0, one_part rest h.1) refl
 pub first_part : (part behind : List ℕ) → Lacks 44 part → parts_of (part ++ 44 ∷ behind) ≡ part ∷ parts_of behind
 first_part [] behind h = refl
 first_part (x ∷ part) behind h = rw (apart x h.0, first_part part behind h.1) refl
-
-pub same_trim : (bytes rest value : List ℕ) → FollowsBlanks bytes rest → EndsInBlanks rest value → value ≡ trimmed bytes
-same_trim bytes rest value f e = padded_same value (trimmed bytes) bytes (both_ends bytes rest value f e) (trimmed_padded bytes)
 
 -- a part that is `close` is one of the value's
 pub found_part : (value rest part behind : List ℕ) → list_any is_close (parts_of value) ≡ list_any is_close (parts_of rest) → Lacks 44 part → rest ≡ part ++ 44 ∷ behind

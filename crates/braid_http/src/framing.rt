@@ -1,26 +1,20 @@
 //! What the fields of a request say of its body, and whether they ask to close the connection.
 
-ghost use Rattle.std.specs.Prelude.{◌≡◌, ◌≤◌, length, codes};
-ghost use Rattle.std.specs.List.{list_all, list_any, prefix_len};
+ghost use Rattle.std.specs.Prelude.{◌≡◌, codes};
+ghost use Rattle.std.specs.List.{list_any};
 ghost use Rattle.std.specs.Str.{str_eq_ignore_ascii_case};
-ghost use Rattle.std.specs.Str.Parse.{digits_value};
 ghost use Rattle.http_header.specs.HeaderMap.{get_all};
-ghost use Rattle.braid_shelf.specs.ByteClasses.{Are, is_blank, is_digit};
-ghost use Rattle.braid_fields.specs.Values.{are_length_digits};
-ghost use Rattle.braid_fields.specs.Fields.{trimmed};
-ghost use Rattle.braid_fields.specs.Cuts.{FollowsBlanks, EndsInBlanks};
 ghost use Rattle.braid_http.specs.Framings.{body_of, by_length, by_coding, framing, is_close, parts_of, closes};
 
 use crate::head::Head;
 use crate::refusal::Refusal;
+use braid_fields::{are_length_digits, trimmed};
 use braid_ids::split_at_byte;
+use braid_shelf::digits_value;
 use http_header::{HeaderMap, HeaderValue};
 
 /// The most bytes of a request's body.
 const MOST_BYTES: u64 = 2_097_152;
-
-/// The most digits of a length.
-const MOST_DIGITS: usize = 15;
 
 /// What a whole head announces.
 #[derive(Clone, Copy, Debug, PartialEq, Eq)]
@@ -33,33 +27,6 @@ pub enum Framing {
     Chunks,
 }
 
-/// The number that digits write.
-pub fn number(digits: &[u8]) -> u64
-    requires digits { Are is_digit digits.now }
-    requires few { length digits.now ≤ 15 }
-    ensures value { result ≡ digits_value 10 digits.now }
-{
-    let mut number = 0;
-    for digit in digits {
-        number = number * 10 + u64::from(*digit - b'0');
-    }
-    number
-}
-
-/// Whether each of the bytes is a digit.
-fn are_digits(bytes: &[u8]) -> bool
-    ensures { result ≡ list_all is_digit bytes.now }
-{
-    bytes.iter().all(|byte| byte.is_ascii_digit())
-}
-
-/// Whether a value is 1 to 15 digits.
-pub fn are_length_digits(value: &[u8]) -> bool
-    ensures { result ≡ are_length_digits value.now }
-{
-    1 <= value.len() && value.len() <= MOST_DIGITS && are_digits(value)
-}
-
 /// What the one value of `Content-Length` announces.
 fn by_length(value: &[u8]) -> Framing
     ensures { result ≡ by_length value.now }
@@ -67,7 +34,7 @@ fn by_length(value: &[u8]) -> Framing
     if !are_length_digits(value) {
         return Framing::No(Refusal::BadLength);
     }
-    let n = number(value);
+    let n = digits_value(value);
     if n > MOST_BYTES {
         Framing::No(Refusal::TooLong)
     } else {
@@ -107,50 +74,6 @@ pub fn announced(head: &Head) -> Framing
             None => by_coding(value.as_bytes()),
         },
     }
-}
-
-/// Whether the byte is a space or a tab.
-fn is_blank(byte: u8) -> bool
-    ensures { result ≡ is_blank byte }
-{
-    byte == b' ' || byte == b'\t'
-}
-
-/// The bytes after the spaces and tabs that they begin with.
-fn without_blanks_before(bytes: &[u8]) -> &[u8]
-    ensures { FollowsBlanks bytes.now result.now }
-{
-    let (_, rest) = bytes.split_at(blanks_len(bytes));
-    rest
-}
-
-/// The number of spaces and tabs that the bytes begin with.
-fn blanks_len(bytes: &[u8]) -> usize
-    ensures count { result ≡ prefix_len is_blank bytes.now }
-    ensures within { result ≤ length bytes.now }
-{
-    bytes.iter().take_while(|byte| is_blank(**byte)).count()
-}
-
-/// The bytes before the spaces and tabs that they end with.
-fn without_blanks_behind(bytes: &[u8]) -> &[u8]
-    ensures { EndsInBlanks bytes.now result.now }
-{
-    let mut rest = bytes;
-    while let Some((last, front)) = rest.split_last() {
-        if !is_blank(*last) {
-            return rest;
-        }
-        rest = front;
-    }
-    rest
-}
-
-/// The bytes without the spaces and tabs at both ends.
-fn trimmed(bytes: &[u8]) -> &[u8]
-    ensures value { result.now ≡ trimmed bytes.now }
-{
-    without_blanks_behind(without_blanks_before(bytes))
 }
 
 /// Whether a part of a value is `close`.

@@ -8,14 +8,15 @@ ghost use Rattle.braid_http.specs.Responses.{IsWholeResponse, kind_by_length, ki
 ghost use Rattle.braid_http.specs.ResponseReads.{HoldsReply};
 ghost use Rattle.braid_http.specs.Replying.{replied_of, over_of_reply, JudgesReply, GivesReply};
 
-use crate::framing::{are_length_digits, number};
 use crate::head::{HeadFault, fields_at};
 use crate::held::Held;
 use crate::looks::HeadLook;
 use crate::reading::read_on;
 use crate::refusal::Refusal;
 use crate::stop::Stop;
+use braid_fields::are_length_digits;
 use braid_io::Link;
+use braid_shelf::digits_value;
 use http::StatusCode;
 use http_header::{HeaderMap, HeaderValue};
 use httparse::Status;
@@ -102,7 +103,7 @@ fn kind_by_length(value: &[u8]) -> Result<BodyKind, Refusal>
     if !are_length_digits(value) {
         return Err(Refusal::BadLength);
     }
-    Ok(BodyKind::Length(number(value)))
+    Ok(BodyKind::Length(digits_value(value)))
 }
 
 /// What the one value of `Transfer-Encoding` announces.

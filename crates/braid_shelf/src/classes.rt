@@ -87,8 +87,8 @@ pub(crate) fn after_spaces(bytes: &[u8]) -> &[u8]
     rest
 }
 
-/// The bytes after the spaces and tabs at the front.
-pub(crate) fn after_blanks(bytes: &[u8]) -> &[u8]
+/// The bytes after the spaces and tabs at the front. It takes no memory.
+pub fn after_blanks(bytes: &[u8]) -> &[u8]
     ensures { result.now ≡ after is_blank bytes.now }
 {
     let (_, rest) = bytes.split_at(blanks_len(bytes));

@@ -10,8 +10,8 @@ use crate::item::Item;
 /// The most digits that an Integer has.
 const MOST_DIGITS: usize = 15;
 
-/// The number that digits write.
-fn number(digits: &[u8]) -> u64
+/// The number that at most 15 digits write; 0 where there are none. It takes no memory.
+pub fn digits_value(digits: &[u8]) -> u64
     requires digits { Are is_digit digits.now }
     requires few { length digits.now ≤ 15 }
     ensures value { result ≡ digits_value 10 digits.now }
@@ -43,6 +43,6 @@ pub(crate) fn read_integer(bytes: &[u8]) -> Result<(Item, &[u8]), Stop>
     if rest.first() == Some(&b'.') {
         return Err(Stop::Bad(left, ShelfKind::NotCarried));
     }
-    let number = number(digits) as i64;
+    let number = digits_value(digits) as i64;
     Ok((Item::Int(if negative { -number } else { number }), rest))
 }

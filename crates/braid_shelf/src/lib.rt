@@ -25,8 +25,10 @@ mod string;
 mod strings;
 mod write;
 
+pub use classes::after_blanks;
 pub use count::read_count;
 pub use fault::{ShelfFault, ShelfKind};
+pub use integer::digits_value;
 pub use item::Item;
 pub use list::read_list;
 pub use member::Member;

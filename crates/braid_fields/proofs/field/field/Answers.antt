@@ -16,7 +16,7 @@ returns-then-not-is_name c name value f =
 pub returns-then-not-are_in_value : goal.returns-then-not-are_in_value
 returns-then-not-are_in_value c name value f =
     let found = c.in-Some.ensures.found in
-    not_both _ (c.are_in_value.ensures ∙ are_all is_in_value _ (value_found name value _ _ _ _ f found.0 found.1 c.trimmed-value.ensures)) c.if-not-are_in_value.true
+    not_both _ (c.are_in_value.ensures ∙ are_all is_in_value _ (value_found name value _ _ _ _ f found.0 found.1 c.trimmed-value.ensures.padded)) c.if-not-are_in_value.true
 
 pub returns : goal.returns
 returns c =
@@ -24,6 +24,6 @@ returns c =
       padded = c.in-Some.padded.now;
       is_name = c.is_name.ensures.0 c.if-not-is_name.false;
       value_bytes = all_are is_in_value _ (sym c.are_in_value.ensures ∙ c.if-not-are_in_value.false);
-      is_padded = c.trimmed-value.ensures;
+      is_padded = c.trimmed-value.ensures.padded;
       spelled = c.in-Some.ensures.found.1;
     }

@@ -1,5 +1,5 @@
 use Rattle.braid_fields.proofs.ValueReading.{digits_tested}
 use Rattle.braid_fields.proofs.length.read_length.Goals as goal
 
-pub number-requires-clause-digits : goal.number-requires-clause-digits
-number-requires-clause-digits c = digits_tested _ _ c.are_length_digits.ensures c.if-not-are_length_digits.false
+pub digits_value-requires-clause-digits : goal.digits_value-requires-clause-digits
+digits_value-requires-clause-digits c = digits_tested _ _ c.are_length_digits.ensures c.if-not-are_length_digits.false
