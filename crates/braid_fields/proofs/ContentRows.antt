@@ -15,8 +15,8 @@ use Rattle.braid_fields.specs.declared.plan.PatchPlan.{PatchPlan}
 use Rattle.braid_fields.specs.declared.plan.Plan.{Plan}
 use Rattle.braid_fields.specs.declared.plan.PlanFault.{PlanFault}
 use Rattle.braid_fields.specs.Values.{count_in_value, range_in_value}
-use Rattle.braid_fields.specs.Table.{Row, first_row, told, length_of, range_of, count_rows, content_rows, asks_of, field_rows, name_rows, plan_of, judged, patch_plan, patch_rows, Plans}
-use Rattle.braid_fields.specs.Rows.{names_of, length_rows, range_rows, alone_asks, patch_field_rows, told_range_rows}
+use Rattle.braid_fields.specs.Table.{Row, first_row, told, length_of, range_of, count_rows, content_rows, asks_of, field_rows, name_rows, plan_of, judged, patch_plan, length_rows, range_rows, alone_asks, patch_field_rows, told_range_rows, patch_rows, Plans}
+use Rattle.braid_fields.specs.Rows.{names_of}
 use Rattle.braid_fields.proofs.ValueReading.{count_law}
 use Rattle.braid_fields.proofs.Planned.{rows_then, rows_stop, rows_fault, rows_pass, rows_same, fault_first, fault_last}
 
@@ -92,10 +92,10 @@ patch_planned used before f u len range e l g b =
 -- a head
 
 pub plan_first : (transfer : Bool) (given : Option ℕ) (p : Parts) (r : Reason) → Err r ≡ first_row {A = Unit {0}} (field_rows transfer given p) (tt {0}) → judged transfer given p ≡ Err r
-plan_first transfer given p r e = rows_stop (field_rows transfer given p) (name_rows p ++ (count_rows p ++ content_rows given p)) (plan_of given p) (tt {0}) r (sym e)
+plan_first transfer given p r e = rows_stop (field_rows transfer given p) (name_rows p ++ (count_rows p.patches ++ content_rows given p)) (plan_of given p) (tt {0}) r (sym e)
 
-plan_later : (transfer : Bool) (given : Option ℕ) (p : Parts) (u : Unit {0}) → Ok u ≡ first_row (field_rows transfer given p) (tt {0}) → judged transfer given p ≡ first_row (name_rows p ++ (count_rows p ++ content_rows given p)) (plan_of given p)
-plan_later transfer given p u e = rows_then (field_rows transfer given p) (name_rows p ++ (count_rows p ++ content_rows given p)) (plan_of given p) (tt {0}) u (sym e)
+plan_later : (transfer : Bool) (given : Option ℕ) (p : Parts) (u : Unit {0}) → Ok u ≡ first_row (field_rows transfer given p) (tt {0}) → judged transfer given p ≡ first_row (name_rows p ++ (count_rows p.patches ++ content_rows given p)) (plan_of given p)
+plan_later transfer given p u e = rows_then (field_rows transfer given p) (name_rows p ++ (count_rows p.patches ++ content_rows given p)) (plan_of given p) (tt {0}) u (sym e)
 
 abbrev Names : Type 0
 Names = List ℕ × List (List ℕ)
@@ -103,20 +103,20 @@ Names = List ℕ × List (List ℕ)
 pub plan_second : (transfer : Bool) (given : Option ℕ) (p : Parts) (u : Unit {0}) (fault : PlanFault) → Ok u ≡ first_row (field_rows transfer given p) (tt {0})
     → Plans {A = Names} (Err fault) (first_row (name_rows p) (names_of p)) → Plans {A = Plan} (Err fault) (judged transfer given p)
 plan_second transfer given p u fault e h =
-    subst (λ (j : Result Plan Reason). Plans (Err fault) j) (sym (plan_later transfer given p u e)) (fault_first (name_rows p) (count_rows p ++ content_rows given p) (plan_of given p) (names_of p) fault h)
+    subst (λ (j : Result Plan Reason). Plans (Err fault) j) (sym (plan_later transfer given p u e)) (fault_first (name_rows p) (count_rows p.patches ++ content_rows given p) (plan_of given p) (names_of p) fault h)
 
 pub plan_third : (transfer : Bool) (given : Option ℕ) (p : Parts) (u : Unit {0}) (names : Names) (fault : PlanFault) → Ok u ≡ first_row (field_rows transfer given p) (tt {0})
-    → first_row (name_rows p) (names_of p) ≡ Ok names → Plans {A = Asks} (Err fault) (first_row (count_rows p ++ content_rows given p) (asks_of given p)) → Plans {A = Plan} (Err fault) (judged transfer given p)
+    → first_row (name_rows p) (names_of p) ≡ Ok names → Plans {A = Asks} (Err fault) (first_row (count_rows p.patches ++ content_rows given p) (asks_of given p)) → Plans {A = Plan} (Err fault) (judged transfer given p)
 plan_third transfer given p u names fault e n h =
-    subst (λ (j : Result Plan Reason). Plans (Err fault) j) (sym (plan_later transfer given p u e)) (fault_last (name_rows p) (count_rows p ++ content_rows given p) (plan_of given p) (names_of p) names (asks_of given p) fault n h)
+    subst (λ (j : Result Plan Reason). Plans (Err fault) j) (sym (plan_later transfer given p u e)) (fault_last (name_rows p) (count_rows p.patches ++ content_rows given p) (plan_of given p) (names_of p) names (asks_of given p) fault n h)
 
 pub plan_made : (transfer : Bool) (given : Option ℕ) (p : Parts) (u : Unit {0}) (id : List ℕ) (parents : List (List ℕ)) (asked : Asks) → Ok u ≡ first_row (field_rows transfer given p) (tt {0})
-    → first_row (name_rows p) (names_of p) ≡ Ok (id, parents) → first_row (count_rows p ++ content_rows given p) (asks_of given p) ≡ Ok asked → judged transfer given p ≡ Ok (record { id = id; parents = parents; asks = asked })
+    → first_row (name_rows p) (names_of p) ≡ Ok (id, parents) → first_row (count_rows p.patches ++ content_rows given p) (asks_of given p) ≡ Ok asked → judged transfer given p ≡ Ok (record { id = id; parents = parents; asks = asked })
 plan_made transfer given p u id parents asked e n h =
     let names = rows_same (name_rows p) (names_of p) (id, parents) n in
-    let content = rows_same (count_rows p ++ content_rows given p) (asks_of given p) asked h in
-    plan_later transfer given p u e ∙ rows_then (name_rows p) (count_rows p ++ content_rows given p) (plan_of given p) (names_of p) (id, parents) n
-    ∙ rows_pass (count_rows p ++ content_rows given p) (plan_of given p) (asks_of given p) asked h ∙ (λ i. Ok (record { id = (names i).0; parents = (names i).1; asks = content i }))
+    let content = rows_same (count_rows p.patches ++ content_rows given p) (asks_of given p) asked h in
+    plan_later transfer given p u e ∙ rows_then (name_rows p) (count_rows p.patches ++ content_rows given p) (plan_of given p) (names_of p) (id, parents) n
+    ∙ rows_pass (count_rows p.patches ++ content_rows given p) (plan_of given p) (asks_of given p) asked h ∙ (λ i. Ok (record { id = (names i).0; parents = (names i).1; asks = content i }))
 
 -- the content of a head without `Patches`
 

@@ -16,7 +16,7 @@ use Rattle.braid_fields.specs.declared.plan.PatchPlan.{PatchPlan}
 use Rattle.braid_fields.specs.Fields.{Field}
 use Rattle.braid_fields.specs.Values.{strings_in_value, range_in_value}
 use Rattle.braid_fields.specs.Known.{is_there, known}
-use Rattle.braid_fields.specs.Table.{Row, first_row, one_value, is_no_list, members_of, first_of, is_bad_id, has_bad_id, tells_nothing, count_of, length_of, no_range, range_of, field_rows, name_rows, count_rows, content_rows, patch_rows, patch_plan, asks_of, plan_of, judged, judge_head, judge_put, judge_patch}
+use Rattle.braid_fields.specs.Table.{Row, first_row, one_value, is_no_list, members_of, first_of, is_bad_id, has_bad_id, tells_nothing, count_of, length_of, no_range, range_of, field_rows, name_rows, count_rows, length_rows, range_rows, beside_rows, content_rows, patch_rows, patch_plan, alone_asks, asks_of, plan_of, judged, judge_head, judge_put, judge_patch}
 use Rattle.braid_fields.specs.Rows.{ArePrintable}
 use Rattle.braid_fields.specs.Limits.{IsPatchWithin, IsAskedWithin, IsPlanWithin}
 use Rattle.braid_fields.proofs.ValueReading.{strings_law}
@@ -93,39 +93,35 @@ range_small (value ∷ values) e = go (range_in_value value) refl e
 
 -- the content
 
-asked_within : (given : Option ℕ) (p : Parts) → AreClear (count_rows p) → AreClear (content_rows given p) → IsAskedWithin (asks_of given p)
-asked_within given p (c, (d, u)) (none, (bad, (long, (unit, (other, (back, v)))))) = go (is_there p.patches) refl
+asked_within : (given : Option ℕ) (p : Parts) → AreClear (count_rows p.patches) → AreClear (content_rows given p) → IsAskedWithin (asks_of given p)
+asked_within given p (c, (d, u)) h = go (is_there p.patches) h
   where
-    forwards : (range_of p.range).start ≤ (range_of p.range).end
-    forwards = ltb-false (range_of p.range).end (range_of p.range).start back
+    inner : (t : Bool) → length_of given p.length ≤ 1048576 → (range_of p.range).start ≤ (range_of p.range).end → (range_of p.range).end < 2 ^ 32
+        → IsAskedWithin (cond t (asks.OnePatch (patch_plan (range_of p.range) (length_of given p.length))) (asks.Body (length_of given p.length)))
+    inner true l f s = record { apart = omega arith; forwards = f; numbered = s; short = omega arith }
+    inner false l f s = l
 
-    small : (range_of p.range).end < 2 ^ 32
-    small = range_small p.range (or_parts (tells_nothing range_in_value p.range) (is_there p.patches && is_there p.range) other).0
+    alone : AreClear (length_rows given 0 p.length) × AreClear (range_rows p.range) → IsAskedWithin (alone_asks given p)
+    alone ((none, (bad, (long, v))), (unit, (other, (back, w)))) =
+        inner (is_there p.range) (ltb-false 1048576 (length_of given p.length) long) (ltb-false (range_of p.range).end (range_of p.range).start back) (range_small p.range other)
 
-    short : is_there p.patches ≡ false → length_of given p.length ≤ 1048576
-    short e = ltb-false 1048576 (length_of given p.length) (ap (λ (t : Bool). not t && nat_lt 1048576 (length_of given p.length)) (sym e) ∙ long)
-
-    inner : (t : Bool) → length_of given p.length ≤ 1048576 → IsAskedWithin (cond t (asks.OnePatch (patch_plan (range_of p.range) (length_of given p.length))) (asks.Body (length_of given p.length)))
-    inner true l = record { apart = omega arith; forwards = forwards; numbered = small; short = omega arith }
-    inner false l = l
-
-    go : (t : Bool) → is_there p.patches ≡ t → IsAskedWithin (cond t (asks.Patches (count_of p.patches)) (cond (is_there p.range) (asks.OnePatch (patch_plan (range_of p.range) (length_of given p.length))) (asks.Body (length_of given p.length))))
-    go true e = ltb-false 1000 (count_of p.patches) d
-    go false e = inner (is_there p.range) (short e)
+    go : (t : Bool) → AreClear (cond t (beside_rows p.range) (length_rows given 0 p.length ++ range_rows p.range)) → IsAskedWithin (cond t (asks.Patches (count_of p.patches)) (alone_asks given p))
+    go true h = ltb-false 1000 (count_of p.patches) d
+    go false h = alone (clear_parts (length_rows given 0 p.length) (range_rows p.range) h)
 
 pub plan_within : (transfer : Bool) (given : Option ℕ) (p : Parts) (plan : Plan) → judged transfer given p ≡ Ok plan → IsPlanWithin plan
 plan_within transfer given p plan e = subst IsPlanWithin (rows_same rows (plan_of given p) plan e) (made all.1)
   where
     rows : List Row
-    rows = field_rows transfer given p ++ (name_rows p ++ (count_rows p ++ content_rows given p))
+    rows = field_rows transfer given p ++ (name_rows p ++ (count_rows p.patches ++ content_rows given p))
 
-    all : AreClear (field_rows transfer given p) × AreClear (name_rows p ++ (count_rows p ++ content_rows given p))
-    all = clear_parts (field_rows transfer given p) (name_rows p ++ (count_rows p ++ content_rows given p)) (clear rows (plan_of given p) plan e)
+    all : AreClear (field_rows transfer given p) × AreClear (name_rows p ++ (count_rows p.patches ++ content_rows given p))
+    all = clear_parts (field_rows transfer given p) (name_rows p ++ (count_rows p.patches ++ content_rows given p)) (clear rows (plan_of given p) plan e)
 
-    made : AreClear (name_rows p ++ (count_rows p ++ content_rows given p)) → IsPlanWithin (plan_of given p)
+    made : AreClear (name_rows p ++ (count_rows p.patches ++ content_rows given p)) → IsPlanWithin (plan_of given p)
     made h =
-        let q = clear_parts (name_rows p) (count_rows p ++ content_rows given p) h in
-        let c = clear_parts (count_rows p) (content_rows given p) q.1 in
+        let q = clear_parts (name_rows p) (count_rows p.patches ++ content_rows given p) h in
+        let c = clear_parts (count_rows p.patches) (content_rows given p) q.1 in
         let lists = or_parts (is_no_list p.version) (is_no_list p.parents) q.0.0 in
         let ids = or_parts (has_bad_id (members_of p.version)) (has_bad_id (members_of p.parents)) q.0.1.1.1.0 in
         let version = good_ids (members_of p.version) (members_printable p.version lists.0) ids.0 in

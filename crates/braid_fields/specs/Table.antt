@@ -133,47 +133,76 @@ name_rows p =
     ∷ []
 
 -- rows on its number of patches
-abbrev pub count_rows : Parts → List Row
-count_rows p =
-    (tells_nothing count_in_value p.patches, reasons.BadCount)
-    ∷ (nat_lt 1_000 (count_of p.patches), reasons.TooManyPatches)
+abbrev pub count_rows : List (List ℕ) → List Row
+count_rows values =
+    (tells_nothing count_in_value values, reasons.BadCount)
+    ∷ (nat_lt 1_000 (count_of values), reasons.TooManyPatches)
     ∷ []
 
--- rows on its content, of which the length is used where there is no `Patches`
-abbrev pub content_rows : Option ℕ → Parts → List Row
-content_rows given p =
-    (not (is_there p.patches) && is_no_length given p.length, reasons.NoLength)
-    ∷ (not (is_there p.patches) && tells_nothing length_in_value (length_lines given p.length), reasons.BadLength)
-    ∷ (not (is_there p.patches) && nat_lt 1_048_576 (length_of given p.length), reasons.TooLong)
-    ∷ (is_other_unit p.range, reasons.OtherUnit)
-    ∷ (tells_nothing range_in_value p.range || (is_there p.patches && is_there p.range), reasons.BadRange)
-    ∷ (is_backwards (range_of p.range), reasons.Backwards)
+-- rows on a length that is given or told
+abbrev pub len_rows : Option ℕ → List (List ℕ) → List Row
+len_rows given values =
+    (is_no_length given values, reasons.NoLength)
+    ∷ (tells_nothing length_in_value (length_lines given values), reasons.BadLength)
     ∷ []
+
+-- and on how long it is, behind contents of `used` bytes
+abbrev pub length_rows : Option ℕ → ℕ → List (List ℕ) → List Row
+length_rows given used values = len_rows given values ++ (nat_lt 1_048_576 (used + length_of given values), reasons.TooLong) ∷ []
+
+-- rows on the form of a range
+abbrev pub form_rows : List (List ℕ) → List Row
+form_rows values =
+    (is_other_unit values, reasons.OtherUnit)
+    ∷ (tells_nothing range_in_value values, reasons.BadRange)
+    ∷ []
+
+-- and on its order
+abbrev pub range_rows : List (List ℕ) → List Row
+range_rows values = form_rows values ++ (is_backwards (range_of values), reasons.Backwards) ∷ []
+
+-- rows on a range beside `Patches`, where none may stand
+abbrev pub beside_rows : List (List ℕ) → List Row
+beside_rows values =
+    (is_other_unit values, reasons.OtherUnit)
+    ∷ (is_there values, reasons.BadRange)
+    ∷ []
+
+-- rows on the content of an update's head: with `Patches` no length is looked at, and no range may stand there
+abbrev pub content_rows : Option ℕ → Parts → List Row
+content_rows given p = if is_there p.patches then beside_rows p.range else (length_rows given 0 p.length ++ range_rows p.range)
+
+-- rows on the fields of a patch's head as such
+abbrev pub patch_field_rows : HeadFields → List Row
+patch_field_rows f =
+    (f.has_transfer_encoding || is_encoded f.parts.encoding, reasons.Encoded)
+    ∷ (is_repeated f.parts.length || is_repeated f.parts.range, reasons.RepeatedField)
+    ∷ []
+
+-- rows on the range that a patch has to have
+abbrev pub told_range_rows : List (List ℕ) → List Row
+told_range_rows values = (not (is_there values), reasons.NoRange) ∷ range_rows values
 
 -- rows on the head of a patch, where the contents before it have `used` bytes and the patch before it ends at `before`
 abbrev pub patch_rows : ℕ → ℕ → HeadFields → List Row
 patch_rows used before f =
-    (f.has_transfer_encoding || is_encoded f.parts.encoding, reasons.Encoded)
-    ∷ (is_repeated f.parts.length || is_repeated f.parts.range, reasons.RepeatedField)
-    ∷ (not (is_there f.parts.length), reasons.NoLength)
-    ∷ (tells_nothing length_in_value f.parts.length, reasons.BadLength)
-    ∷ (nat_lt 1_048_576 (used + length_of None f.parts.length), reasons.TooLong)
-    ∷ (not (is_there f.parts.range), reasons.NoRange)
-    ∷ (is_other_unit f.parts.range, reasons.OtherUnit)
-    ∷ (tells_nothing range_in_value f.parts.range, reasons.BadRange)
-    ∷ (is_backwards (range_of f.parts.range), reasons.Backwards)
-    ∷ (nat_lt (range_of f.parts.range).start before, reasons.Overlap)
-    ∷ []
+    patch_field_rows f
+    ++ (length_rows None used f.parts.length
+    ++ (told_range_rows f.parts.range
+    ++ (nat_lt (range_of f.parts.range).start before, reasons.Overlap) ∷ []))
 
 -- a patch with a range and a length
 abbrev pub patch_plan : TextRange → ℕ → PatchPlan
 patch_plan range len = record { start = range.start; end = range.end; len = len }
 
+-- the content that a head without `Patches` asks for
+abbrev pub alone_asks : Option ℕ → Parts → Asks
+alone_asks given p =
+    if is_there p.range then asks.OnePatch (patch_plan (range_of p.range) (length_of given p.length)) else asks.Body (length_of given p.length)
+
 -- the content that a head asks for
 abbrev pub asks_of : Option ℕ → Parts → Asks
-asks_of given p =
-    if is_there p.patches then asks.Patches (count_of p.patches)
-    else (if is_there p.range then asks.OnePatch (patch_plan (range_of p.range) (length_of given p.length)) else asks.Body (length_of given p.length))
+asks_of given p = if is_there p.patches then asks.Patches (count_of p.patches) else alone_asks given p
 
 -- the plan of a head
 abbrev pub plan_of : Option ℕ → Parts → Plan
@@ -186,7 +215,7 @@ plan_of given p = record {
 -- what the rows say of an update's head, in their order
 abbrev pub judged : Bool → Option ℕ → Parts → Result Plan Reason
 judged transfer given p =
-    first_row (field_rows transfer given p ++ (name_rows p ++ (count_rows p ++ content_rows given p))) (plan_of given p)
+    first_row (field_rows transfer given p ++ (name_rows p ++ (count_rows p.patches ++ content_rows given p))) (plan_of given p)
 
 -- the plan of an update's head, or the first reason against it
 unfoldable pub judge_head : List Field → Result Plan Reason

@@ -1,10 +1,9 @@
 //! The content that an update's head asks for.
 
-ghost use Rattle.std.specs.Prelude.{◌≡◌, ◌++◌, ok_or, unwrap_or};
+ghost use Rattle.std.specs.Prelude.{◌≡◌, ◌++◌, ◌∷◌, [], ok_or};
 ghost use Rattle.braid_fields.specs.declared.reason.Reason.TheVariants.{BadCount};
 ghost use Rattle.braid_fields.specs.Values.{count_in_value};
-ghost use Rattle.braid_fields.specs.Table.{first_row, count_rows, content_rows, asks_of, Plans};
-ghost use Rattle.braid_fields.specs.Rows.{one_count_rows, length_rows, range_rows, alone_asks};
+ghost use Rattle.braid_fields.specs.Table.{first_row, count_of, count_rows, length_rows, range_rows, content_rows, alone_asks, asks_of, Plans};
 
 use crate::length::content_len;
 use crate::parts::Parts;
@@ -29,7 +28,7 @@ fn told_count(alloc: Global, value: &[u8]) -> Result<u64, PlanFault>
 
 /// The number of patches that a value of `Patches` tells.
 fn patch_count(alloc: Global, value: &[u8]) -> Result<u32, PlanFault>
-    ensures count { Plans result (first_row (one_count_rows value.now) (unwrap_or (count_in_value value.now) 0)) }
+    ensures count { Plans result (first_row (count_rows (value.now ∷ [])) (count_of (value.now ∷ []))) }
 {
     let count = told_count(alloc, value)?;
     if count > MOST_PATCHES {
@@ -58,7 +57,7 @@ fn alone(given: Option<u64>, parts: &Parts) -> Result<Asks, Reason>
 
 /// The content that a head asks for, whose length is given or told.
 pub(crate) fn content(alloc: Global, given: Option<u64>, parts: &Parts) -> Result<Asks, PlanFault>
-    ensures asks { Plans result (first_row (count_rows parts.now ++ content_rows given parts.now)
+    ensures asks { Plans result (first_row (count_rows parts.now.patches ++ content_rows given parts.now)
         (asks_of given parts.now)) }
 {
     let Some(value) = parts.patches.get().first() else {

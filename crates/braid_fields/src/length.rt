@@ -1,11 +1,10 @@
 //! The length of a content.
 
-ghost use Rattle.std.specs.Prelude.{◌≡◌, unwrap_or};
+ghost use Rattle.std.specs.Prelude.{◌≡◌, None};
 ghost use Rattle.std.specs.List.{list_all};
 ghost use Rattle.braid_shelf.specs.ByteClasses.{is_digit};
 ghost use Rattle.braid_fields.specs.Values.{are_length_digits, length_in_value};
-ghost use Rattle.braid_fields.specs.Table.{first_row, told, length_of};
-ghost use Rattle.braid_fields.specs.Rows.{told_rows, len_rows, length_rows};
+ghost use Rattle.braid_fields.specs.Table.{first_row, length_of, len_rows, length_rows};
 
 use crate::reason::Reason;
 use braid_ids::ListBytes;
@@ -44,7 +43,7 @@ fn read_length(value: &[u8]) -> Option<u64>
 
 /// The length that the line of `Content-Length` tells.
 fn told_len(values: &ListBytes) -> Result<u64, Reason>
-    ensures len { result ≡ first_row (told_rows values.now) (unwrap_or (told length_in_value values.now) 0) }
+    ensures len { result ≡ first_row (len_rows None values.now) (length_of None values.now) }
 {
     let Some(value) = values.get().first() else {
         return Err(Reason::NoLength);

@@ -3,8 +3,7 @@
 ghost use Rattle.std.specs.Prelude.{◌≡◌, ◌||◌, List, None};
 ghost use Rattle.braid_fields.specs.Fields.{Field};
 ghost use Rattle.braid_fields.specs.Known.{known};
-ghost use Rattle.braid_fields.specs.Table.{first_row, is_encoded, is_repeated, length_of, range_of, patch_rows, patch_plan, judge_patch};
-ghost use Rattle.braid_fields.specs.Rows.{patch_field_rows, told_range_rows};
+ghost use Rattle.braid_fields.specs.Table.{first_row, is_encoded, is_repeated, length_of, range_of, patch_field_rows, told_range_rows, patch_rows, patch_plan, judge_patch};
 
 use crate::checks::{is_encoded, is_repeated};
 use crate::length::content_len;

@@ -2,8 +2,8 @@
 
 ghost use Rattle.std.specs.Prelude.{◌≡◌, Ok, true, nat_lt, length};
 ghost use Rattle.braid_fields.specs.Values.{range_in_value};
-ghost use Rattle.braid_fields.specs.Table.{first_row, told};
-ghost use Rattle.braid_fields.specs.Rows.{range_rows, beside_rows, one_range};
+ghost use Rattle.braid_fields.specs.Table.{first_row, told, range_rows, beside_rows};
+ghost use Rattle.braid_fields.specs.Rows.{one_range};
 
 use crate::reason::Reason;
 use braid_change::{RangeFault, read_range};

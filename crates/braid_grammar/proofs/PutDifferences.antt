@@ -37,7 +37,7 @@ length_passed p values b (Err faults.Memory) h = tt
 -- a plan asks for what its fields say
 asks_same : (n : ℕ) (p : Parts) (plan : Plan) → judge_put n p ≡ Ok plan → plan.asks ≡ asks_of (Some n) p
 unfolding judge_put
-asks_same n p plan e = ap (λ (q : Plan). q.asks) (sym (rows_same (field_rows false (Some n) p ++ (name_rows p ++ (count_rows p ++ content_rows (Some n) p))) (plan_of (Some n) p) plan e))
+asks_same n p plan e = ap (λ (q : Plan). q.asks) (sym (rows_same (field_rows false (Some n) p ++ (name_rows p ++ (count_rows p.patches ++ content_rows (Some n) p))) (plan_of (Some n) p) plan e))
 
 -- without `Patches` it asks for one content of the whole length
 asks_whole : (n : ℕ) (p : Parts) → is_there p.patches ≡ false → AsksLength (asks_of (Some n) p) n
