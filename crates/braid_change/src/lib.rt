@@ -30,7 +30,7 @@ pub use range::{RangeFault, read_range};
 pub use spelling::canon;
 pub use splices::{SpliceFault, splice};
 pub use text::{Text, TextFault};
-pub use update::{BuildFault, Update};
+pub use update::{BuildFault, LONGEST_CONTENT, MOST_PARENTS, MOST_PATCHES, Update};
 
 #[cfg(test)]
 mod range_tests;

@@ -9,11 +9,14 @@ use braid_ids::{Frontier, Id, Memory};
 use std::alloc::Global;
 use std::marker::Model;
 
-const MOST_PARENTS: u32 = 32;
+/// The most parents of an update.
+pub const MOST_PARENTS: u32 = 32;
 
-const MOST_PATCHES: usize = 1_000;
+/// The most patches of an update.
+pub const MOST_PATCHES: usize = 1_000;
 
-const LONGEST_CONTENT: u64 = 1_048_576;
+/// The most bytes of all contents of an update together.
+pub const LONGEST_CONTENT: u64 = 1_048_576;
 
 /// One version of a text: its identifier, its parents and what it changes in the text at them.
 #[derive(Drop)]

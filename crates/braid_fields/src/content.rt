@@ -10,10 +10,9 @@ use crate::parts::Parts;
 use crate::plan::{Asks, PatchPlan, PlanFault};
 use crate::range::{check_beside, range_of};
 use crate::reason::Reason;
+use braid_change::MOST_PATCHES;
 use braid_shelf::{ShelfFault, read_count};
 use std::alloc::Global;
-
-const MOST_PATCHES: u64 = 1_000;
 
 /// The number that a value of `Patches` tells.
 fn told_count(alloc: Global, value: &[u8]) -> Result<u64, PlanFault>
@@ -31,7 +30,7 @@ fn patch_count(alloc: Global, value: &[u8]) -> Result<u32, PlanFault>
     ensures count { Plans result (first_row (count_rows (value.now ∷ [])) (count_of (value.now ∷ []))) }
 {
     let count = told_count(alloc, value)?;
-    if count > MOST_PATCHES {
+    if count > MOST_PATCHES as u64 {
         return Err(PlanFault::Reason(Reason::TooManyPatches));
     }
     Ok(count as u32)

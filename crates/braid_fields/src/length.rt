@@ -7,14 +7,12 @@ ghost use Rattle.braid_fields.specs.Values.{are_length_digits, length_in_value};
 ghost use Rattle.braid_fields.specs.Table.{first_row, length_of, len_rows, length_rows};
 
 use crate::reason::Reason;
+use braid_change::LONGEST_CONTENT;
 use braid_ids::ListBytes;
 use braid_shelf::digits_value;
 
 /// The most digits of a length.
 const MOST_DIGITS: usize = 15;
-
-/// The most bytes of all contents of an update.
-const LONGEST: u64 = 1_048_576;
 
 /// Whether each of the bytes is a digit.
 fn are_digits(bytes: &[u8]) -> bool
@@ -69,7 +67,7 @@ pub(crate) fn content_len(given: Option<u64>, used: u32, values: &ListBytes) -> 
     ensures len { result ≡ first_row (length_rows given used values.now) (length_of given values.now) }
 {
     let len = len_of(given, values)?;
-    if len.saturating_add(u64::from(used)) > LONGEST {
+    if len.saturating_add(u64::from(used)) > LONGEST_CONTENT {
         return Err(Reason::TooLong);
     }
     Ok(len as u32)

@@ -10,10 +10,9 @@ use crate::joined::members;
 use crate::parts::Parts;
 use crate::plan::PlanFault;
 use crate::reason::Reason;
+use braid_change::MOST_PARENTS;
 use braid_ids::{Bytes, Frontier, Id, IdFault, ListBytes};
 use std::alloc::Global;
-
-const MOST_PARENTS: u32 = 32;
 
 /// The most members of a set of identifiers. No memory holds a list of more.
 const MOST_MEMBERS: usize = 4_294_967_295;

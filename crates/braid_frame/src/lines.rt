@@ -6,10 +6,8 @@ ghost use Rattle.braid_frame.specs.HeadLines.{IsLineLen, KeepsLine, Judges};
 
 use crate::state::Awaits;
 use braid_fields::{Reason, is_empty_line, is_good_status, is_status, read_field};
+use braid_grammar::HEAD_LIMIT;
 use std::alloc::AllocError;
-
-/// The most bytes of a head.
-pub const HEAD_LIMIT: usize = 16_384;
 
 /// How much of a piece was kept.
 #[derive(Clone, Copy)]

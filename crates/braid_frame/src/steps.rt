@@ -14,9 +14,10 @@ use crate::contents::{begin_content, begin_update, step_content};
 use crate::ends::{fail, pass_over, refuse, run_out};
 use crate::fed::{Fed, FeedFault};
 use crate::heads::{plan_patch_head, plan_update_head};
-use crate::lines::{HEAD_LIMIT, Kept, LineIs, judge_line, keep_line};
+use crate::lines::{Kept, LineIs, judge_line, keep_line};
 use crate::state::{Doing, State};
 use braid_fields::Reason;
+use braid_grammar::HEAD_LIMIT;
 use std::alloc::Global;
 use std::mem;
 

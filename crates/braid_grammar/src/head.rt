@@ -12,8 +12,8 @@ use braid_fields::{HeadFields, Reason, is_empty_line, is_good_status, is_status,
 use braid_ids::Memory;
 use std::alloc::Global;
 
-/// The longest head, in bytes.
-const HEAD_LIMIT: usize = 16_384;
+/// The most bytes of the head of an update or of a patch.
+pub const HEAD_LIMIT: usize = 16_384;
 
 /// Which head it is.
 #[derive(Clone, Copy)]

@@ -21,6 +21,7 @@ mod put;
 mod stream;
 mod update;
 
+pub use head::HEAD_LIMIT;
 pub use put::{PutFault, read_put};
 pub use stream::{Stream, StreamEnd, read_stream};
 

@@ -6,16 +6,10 @@ ghost use Rattle.braid_http.specs.Heads.{IsFullLine};
 ghost use Rattle.braid_http.specs.BodySteps.{IsPartOf, Turns, IsTrailing, IsAround, Comes, Adds, Falls, Passes};
 ghost use Rattle.braid_http.specs.Draws.{IsLineBegun};
 
-use crate::chunks::size_of_line;
+use crate::chunks::{MOST_LINE, MOST_TRAILER, size_of_line};
 use crate::wire::Wire;
 use braid_io::{Link, Read};
 use std::marker::Model;
-
-/// The most bytes of a chunk line.
-const MOST_LINE: usize = 256;
-
-/// The most bytes of a trailer.
-const MOST_TRAILER: usize = 16_384;
 
 /// A chunk line that has come in part.
 #[derive(Drop)]

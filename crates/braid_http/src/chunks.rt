@@ -7,19 +7,17 @@ ghost use Rattle.braid_http.specs.Chunks.{IsCut, Announces};
 ghost use Rattle.braid_http.specs.Looks.{IsLooked};
 ghost use Rattle.braid_http.specs.Steps.{IsAtLine, IsInData, IsInTrailer, IsPlace, Leaves, Steps};
 
+use crate::framing::MOST_BYTES;
 use crate::looks::Look;
 use crate::refusal::Refusal;
 use braid_ids::{Bytes, split_at_byte};
 use httparse::{Status, parse_chunk_size};
 
 /// The most bytes of a chunk line.
-const MOST_LINE: usize = 256;
+pub const MOST_LINE: usize = 256;
 
 /// The most bytes of a trailer.
-const MOST_TRAILER: usize = 16_384;
-
-/// The most bytes of a request's data.
-const MOST_DATA: u64 = 2_097_152;
+pub const MOST_TRAILER: usize = 16_384;
 
 /// Where the decoding of a chunked body stands.
 #[derive(Clone, Copy, Debug)]
@@ -102,7 +100,7 @@ fn at_line(bytes: &[u8], total: usize) -> Fed
     if size == 0 {
         return Fed::Passed(line.len(), Place::Trailer(Look::new()));
     }
-    if size > MOST_DATA.saturating_sub(total as u64) {
+    if size > MOST_BYTES.saturating_sub(total as u64) {
         return Fed::Refused(Refusal::TooLong);
     }
     Fed::Passed(line.len(), Place::Data(size))

@@ -13,8 +13,8 @@ use braid_ids::split_at_byte;
 use braid_shelf::digits_value;
 use http_header::{HeaderMap, HeaderValue};
 
-/// The most bytes of a request's body.
-const MOST_BYTES: u64 = 2_097_152;
+/// The most bytes of a request's body, and of the data of one that is chunked.
+pub const MOST_BYTES: u64 = 2_097_152;
 
 /// What a whole head announces.
 #[derive(Clone, Copy, Debug, PartialEq, Eq)]

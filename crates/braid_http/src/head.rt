@@ -19,7 +19,7 @@ use httparse::spans::{EMPTY_HEADER_SPAN, HeaderSpan, parse_request};
 use std::alloc::Global;
 
 /// The most fields of a head.
-const MOST_FIELDS: usize = 64;
+pub const MOST_FIELDS: usize = 64;
 
 /// Why a head gives no request.
 #[derive(Debug, Clone, Copy, PartialEq, Eq)]

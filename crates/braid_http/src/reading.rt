@@ -25,7 +25,7 @@ use std::alloc::Global;
 const MOST_HEAD: usize = 16_384;
 
 /// The most lines of a head before its empty one: its first line and 64 fields.
-const MOST_LINES: usize = 65;
+pub const MOST_LINES: usize = 65;
 
 /// A head that has come: what it holds, how many bytes it has with the empty lines before it, and what it announces.
 #[derive(Drop)]

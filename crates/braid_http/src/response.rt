@@ -8,10 +8,10 @@ ghost use Rattle.braid_http.specs.Responses.{IsWholeResponse, kind_by_length, ki
 ghost use Rattle.braid_http.specs.ResponseReads.{HoldsReply};
 ghost use Rattle.braid_http.specs.Replying.{replied_of, over_of_reply, JudgesReply, GivesReply};
 
-use crate::head::{HeadFault, fields_at};
+use crate::head::{HeadFault, MOST_FIELDS, fields_at};
 use crate::held::Held;
 use crate::looks::HeadLook;
-use crate::reading::read_on;
+use crate::reading::{MOST_LINES, read_on};
 use crate::refusal::Refusal;
 use crate::stop::Stop;
 use braid_fields::are_length_digits;
@@ -25,12 +25,6 @@ use std::alloc::Global;
 
 /// The most bytes of a reply's head.
 const MOST_HEAD: usize = 524_288;
-
-/// The most lines of a head before its empty one: its first line and 64 fields.
-const MOST_LINES: usize = 65;
-
-/// The most fields of a head.
-const MOST_FIELDS: usize = 64;
 
 /// How the body of a reply ends.
 #[derive(Clone, Copy, Debug, PartialEq, Eq)]

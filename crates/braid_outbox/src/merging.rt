@@ -8,9 +8,9 @@ ghost use Rattle.braid_ids.specs.Frontiers.{IsRising};
 ghost use Rattle.braid_outbox.specs.Replicas.{all_of, log_of, frontier, number, greatest_number};
 ghost use Rattle.braid_outbox.specs.Writes.{last_id, merged_of, merge_parents, merges_needed, merges_of, next_merge, with_unsent};
 
-use crate::reading::{MOST_PARENTS, least};
+use crate::reading::least;
 use crate::replica::{ANY_WIDTH, Replica};
-use braid_change::{Change, ListPatch, Update};
+use braid_change::{Change, ListPatch, MOST_PARENTS, Update};
 use braid_ids::{Frontier, Id, Memory};
 use braid_text::Accept;
 use std::alloc::Global;

@@ -7,13 +7,10 @@ ghost use Rattle.braid_text.specs.Digested.{digest_at};
 ghost use Rattle.braid_outbox.specs.Replicas.{all_of, frontier, resume_of};
 
 use crate::replica::Replica;
-use braid_change::Text;
+use braid_change::{MOST_PARENTS, Text};
 use braid_graph::Graph;
 use braid_ids::{Frontier, Id, Memory};
 use std::alloc::Global;
-
-/// How many parents an update may have, and how many identifiers a replica resumes from.
-pub const MOST_PARENTS: u32 = 32;
 
 impl Replica {
     /// Where the replica resumes: the frontier of its confirmed updates, or the 32 least identifiers of it.
