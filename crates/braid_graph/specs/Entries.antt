@@ -20,6 +20,10 @@ Holds es v = Contains (ids_of es) v
 abbrev pub HoldsAll : List GraphEntry → List (List ℕ) → Type 0
 HoldsAll es F = (v : List ℕ) → Contains F v → Holds es v
 
+-- this is the arrival number of member i of the identifiers
+abbrev pub IsMemberNumber : List GraphEntry → List (List ℕ) → ℕ → ℕ → Type 0
+IsMemberNumber es F i n = (v : List ℕ) × (slice_get F i ≡ Some v) × (slice_get (ids_of es) n ≡ Some v)
+
 -- entries in an order of arrival: no identifier comes twice, and parents stand before their children
 pub record IsHistoryGraph (es : List GraphEntry) : Type 0 where
   pub distinct : (n : ℕ) (e : GraphEntry) → slice_get es n ≡ Some e → ¬ (Holds (take n es) e.id)

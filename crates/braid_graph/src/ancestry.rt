@@ -102,11 +102,7 @@ impl Graph {
         ensures reached { IsReached self.now of.now of.now (runs_of self.now) ends.new }
     {
         for i in 0..of.len() {
-            let Some(id) = of.get(i) else { unreachable!() };
-            let Some(n) = self.index_of(id) else {
-                unreachable!()
-            };
-            self.reach(n, ends);
+            self.reach(self.number_of(of, i), ends);
         }
     }
 
@@ -170,11 +166,7 @@ impl Graph {
         ensures all { IsTrue result ↔ AllMarked self.now of.now marks.now }
     {
         for i in 0..of.len() {
-            let Some(id) = of.get(i) else { unreachable!() };
-            let Some(n) = self.index_of(id) else {
-                unreachable!()
-            };
-            if !marks.has(n) {
+            if !marks.has(self.number_of(of, i)) {
                 return false;
             }
         }

@@ -2,7 +2,7 @@ ghost use Rattle.std.specs.Prelude.{◌≡◌, ◌<◌, ◌≤◌, ◌++◌, ◌
 ghost use Rattle.std.specs.List.{AllZip};
 ghost use Rattle.std.specs.Option.{option_map, option_copied};
 ghost use Rattle.braid_ids.specs.Frontiers.{IsRising};
-ghost use Rattle.braid_graph.specs.Entries.{GraphEntry, ids_of, Holds, HoldsAll, IsHistoryGraph};
+ghost use Rattle.braid_graph.specs.Entries.{GraphEntry, ids_of, Holds, HoldsAll, IsMemberNumber, IsHistoryGraph};
 ghost use Rattle.braid_graph.specs.Ancestries.{IsLeastUnheld};
 ghost use Rattle.braid_graph.specs.Levels.{greatest_by, level_of};
 ghost use Rattle.braid_graph.specs.Frontiers.{IsFrontierOf, frontier_of, heads_of, is_head};
@@ -90,23 +90,30 @@ impl Graph {
         ensures run { IfOk result (λ links. IsRunAfter self.now parents.now links.run) }
     {
         let mut numbers = SmallVec::new(self.alloc);
-        let mut greatest = 0;
         for i in 0..parents.len() {
-            let Some(id) = parents.get(i) else {
-                unreachable!()
-            };
-            let Some(n) = self.index_of(id) else {
-                unreachable!()
-            };
-            numbers.push(n)?;
-            greatest = greatest.max(self.level(n));
+            numbers.push(self.number_of(parents, i))?;
         }
+        let level = self.level_above(parents);
         let run = self.run_after(numbers.as_slice());
         Ok(Links {
             parents: numbers,
-            level: greatest + 1,
+            level,
             run,
         })
+    }
+
+    /// One level above the greatest of held versions, and 1 of none: the level of an entry with these parents. It takes
+    /// no memory.
+    pub fn level_above(&self, parents: &Frontier) -> u32
+        requires held { HoldsAll self.now parents.now }
+        ensures level { result ≡ 1 + greatest_by (level_of self.now) parents.now }
+    {
+        let mut greatest = 0;
+        for i in 0..parents.len() {
+            let n = self.number_of(parents, i);
+            greatest = greatest.max(self.level(n));
+        }
+        greatest + 1
     }
 
     /// The number of the run of a new entry whose parents have these numbers: the last, where the newest entry is the
@@ -145,6 +152,24 @@ impl Graph {
             Some(n) => Some(n as u32),
             None => None,
         }
+    }
+
+    /// The arrival number of member `i` of held identifiers, counted from 0 in rising order. It takes no memory.
+    ///
+    /// Contracts learn here that the entries are a history of at most 524,288.
+    pub fn number_of(&self, of: &Frontier, i: u32) -> u32
+        requires held { HoldsAll self.now of.now }
+        requires member { i < length of.now }
+        ensures number { IsMemberNumber self.now of.now i result }
+        ensures within { result < length self.now }
+        ensures valid { IsHistoryGraph self.now }
+        ensures few { length self.now ≤ 524288 }
+    {
+        let Some(id) = of.get(i) else { unreachable!() };
+        let Some(n) = self.index_of(id) else {
+            unreachable!()
+        };
+        n
     }
 
     /// The entry with this arrival number: its identifier and its parents. It takes no memory.
@@ -192,10 +217,7 @@ impl Graph {
     {
         let mut count = 0;
         for i in 0..of.len() {
-            let Some(id) = of.get(i) else { unreachable!() };
-            let Some(n) = self.index_of(id) else {
-                unreachable!()
-            };
+            let n = self.number_of(of, i);
             if self.heads.has(n) {
                 count += 1;
             }

@@ -1,4 +1,4 @@
-use Rattle.std.proofs.Common.{List, ◌≡◌, true, false, Some, ◌+◌, ◌∙◌, arith, take, length, filter, sym, ap, subst}
+use Rattle.std.proofs.Common.{List, ◌≡◌, true, false, Some, ◌+◌, ◌∙◌, arith, take, length, filter, ap, subst}
 use Rattle.std.proofs.lemmas.List.{take_all}
 use Rattle.braid_graph.specs.Entries.{GraphEntry, IsHistoryGraph}
 use Rattle.braid_graph.specs.Frontiers.{is_head}
@@ -10,10 +10,11 @@ use Rattle.braid_graph.proofs.graph.Graph.heads_among.Goals.{then-has, else-has}
 pub loop-i-preserved : goal.loop-i-preserved
 loop-i-preserved c =
     let es = c.args.self.now in
+    let at = c.number_of-n.ensures.number in
     let kept : IsKept es c.self.inside.links.items c.self.inside.heads = subst (λ (t : List GraphEntry). IsKept t c.self.inside.links.items c.self.inside.heads) c.self.view_is c.self.invariant.kept in
     elim c.if-has.branch [
-      | then-has w ↦ rw w.count-is (record { few = omega (arith, c.loop-i.invariant.few); counted = heads_counted es c.args.of.now c.self.inside.heads c.loop-i.i c.in-Some-index_of.n c.in-Some.id.now true c.loop-i.count kept.heads (sym c.in-Some.ensures.value) c.in-Some-index_of.ensures.found (c.has.ensures.has ∙ ap Some w.if-has.true) c.loop-i.invariant.counted })
-      | else-has w ↦ rw w.count-is (record { few = omega (arith, c.loop-i.invariant.few); counted = (let e : c.loop-i.count + 0 ≡ length (filter (is_head es) (take (c.loop-i.i + 1) c.args.of.now)) = heads_counted es c.args.of.now c.self.inside.heads c.loop-i.i c.in-Some-index_of.n c.in-Some.id.now false c.loop-i.count kept.heads (sym c.in-Some.ensures.value) c.in-Some-index_of.ensures.found (c.has.ensures.has ∙ ap Some w.if-has.false) c.loop-i.invariant.counted in omega (arith, e)) })
+      | then-has w ↦ rw w.count-is (record { few = omega (arith, c.loop-i.invariant.few); counted = heads_counted es c.args.of.now c.self.inside.heads c.loop-i.i c.number_of-n.result at.0 true c.loop-i.count kept.heads at.1 at.2 (c.has.ensures.has ∙ ap Some w.if-has.true) c.loop-i.invariant.counted })
+      | else-has w ↦ rw w.count-is (record { few = omega (arith, c.loop-i.invariant.few); counted = (let e : c.loop-i.count + 0 ≡ length (filter (is_head es) (take (c.loop-i.i + 1) c.args.of.now)) = heads_counted es c.args.of.now c.self.inside.heads c.loop-i.i c.number_of-n.result at.0 false c.loop-i.count kept.heads at.1 at.2 (c.has.ensures.has ∙ ap Some w.if-has.false) c.loop-i.invariant.counted in omega (arith, e)) })
     ]
 
 pub returns : goal.returns
