@@ -9,7 +9,7 @@ use crate::reaching::{Reach, reach_of};
 use crate::run::{Run, deletes_in, runs_in};
 use braid_change::Update;
 use braid_graph::Graph;
-use braid_ids::{Frontier, Memory};
+use braid_ids::Memory;
 use braid_tree::{At, Document};
 use std::alloc::{AllocError, AllocFailed, Global};
 
@@ -93,28 +93,10 @@ pub fn resolve<D: Document>(
     } = reach;
     let deletes = deletes_in(alloc, &places, first, &ranges)?;
     let runs = runs_in(alloc, &places, first, ranges)?;
-    let level = level_above(graph, update.parents());
+    let level = graph.level_above(update.parents());
     Ok(Resolved {
         runs,
         deletes,
         level,
     })
-}
-
-/// One level above the greatest of these versions.
-fn level_above(graph: &Graph, parents: &Frontier) -> u32
-    requires held { HoldsAll graph.now parents.now }
-    ensures level { result ≡ 1 + greatest_by (level_of graph.now) parents.now }
-{
-    let mut greatest = 0;
-    for i in 0..parents.len() {
-        let Some(id) = parents.get(i) else {
-            unreachable!()
-        };
-        let Some(n) = graph.index_of(id) else {
-            unreachable!()
-        };
-        greatest = greatest.max(graph.level(n));
-    }
-    greatest + 1
 }

@@ -16,7 +16,7 @@ use Rattle.braid_rebase.proofs.Members.{contains_member, member_contains, member
 use Rattle.braid_text.specs.Histories.{IsLegal, SameGraph, graph_of}
 use Rattle.braid_text.specs.Digested.{id_in, with_update, by_identifier, digest_at}
 use Rattle.std.proofs.lemmas.List.{take_all, length-map}
-use Rattle.braid_graph.specs.Entries.{GraphEntry, Holds, ids_of}
+use Rattle.braid_graph.specs.Entries.{GraphEntry, Holds, HoldsAll, ids_of}
 use Rattle.braid_text.proofs.Held.{one_update}
 use Rattle.braid_text.proofs.Logs.{has_holds}
 use Rattle.braid_text.proofs.Taking.{held_number, member_number}
@@ -117,14 +117,10 @@ ordered_next H legal i item m at = go (slice_get (by_identifier H) i) refl
 pub ordered_all : (H : List UpdateView) (i : ℕ) (ids : List (List ℕ)) → ids ≡ rising_ids (map id_in H) → length ids ≤ i → take i (by_identifier H) ≡ by_identifier H
 ordered_all H i ids is l = take_all i (by_identifier H) (omega (arith, l, ap length is, ap length (ordered_ids H), length-map (by_identifier H) id_in))
 
-pub ordered_held : (H : List UpdateView) (es : List GraphEntry) → es ≡ graph_of H → (i : ℕ) (ids : List (List ℕ)) (v : List ℕ) → ids ≡ rising_ids (map id_in H) → slice_get ids i ≡ Some v → Holds es v
-ordered_held H es same i ids v is at = subst (λ (t : List GraphEntry). Holds t v) (sym same) (go (member_from_map id_in v H (contains_member (map id_in H) v ((rising_members (map id_in H) v).0 (subst (λ (t : List (List ℕ)). Contains t v) is (member_contains ids v (number ids i v at)))))))
+-- their identifiers are held
+pub ordered_held : (H : List UpdateView) (es : List GraphEntry) → es ≡ graph_of H → (ids : List (List ℕ)) → ids ≡ rising_ids (map id_in H) → HoldsAll es ids
+ordered_held H es same ids is v c = subst (λ (t : List GraphEntry). Holds t v) (sym same) (go (member_from_map id_in v H (contains_member (map id_in H) v ((rising_members (map id_in H) v).0 (subst (λ (t : List (List ℕ)). Contains t v) is c)))))
   where
-    number : (xs : List (List ℕ)) (n : ℕ) (x : List ℕ) → slice_get xs n ≡ Some x → Member x xs
-    number [] n x e = absurd (none-some x e)
-    number (y ∷ xs) zero x e = inl (same_Some y x e)
-    number (y ∷ xs) (suc n) x e = inr (number xs n x e)
-
     go : (u : UpdateView) × Member u H × (u.id ≡ v) → Holds (graph_of H) v
     go (u, m, e) = subst (Holds (graph_of H)) e (has_holds H u.id (u, m, refl))
 

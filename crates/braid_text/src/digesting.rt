@@ -22,10 +22,7 @@ pub fn digest(alloc: Global, updates: &[Update], graph: &Graph) -> Result<[u8; 3
     let ids = sorted_ids(alloc, updates)?;
     let mut digester = Digester::new();
     for i in 0..ids.len() {
-        let Some(id) = ids.get(i) else { unreachable!() };
-        let Some(n) = graph.index_of(id) else {
-            unreachable!()
-        };
+        let n = graph.number_of(&ids, i);
         digester.add(alloc, &updates[n as usize])?;
     }
     Ok(digester.finish())

@@ -7,17 +7,20 @@ use Rattle.braid_text.proofs.Digests.{ordered_all, ordered_held, ordered_item}
 use Rattle.braid_text.proofs.Taking.{number_within}
 use Rattle.braid_text.proofs.digesting.digest.Goals as goal
 
-pub unreachable-requires-in_default-index_of : goal.unreachable-requires-in_default-index_of
-unreachable-requires-in_default-index_of c = c.in_default-index_of.ensures.none (ordered_held c.args.updates.now c.args.graph.now c.requires.graph c.loop-i.i c.in_ok-ids.ids c.in-Some.id.now c.in_ok-ids.ensures.ok (sym c.in-Some.ensures.value))
+pub number_of-n-requires-clause-held : goal.number_of-n-requires-clause-held
+number_of-n-requires-clause-held c = ordered_held c.args.updates.now c.args.graph.now c.requires.graph c.in_ok-ids.ids c.in_ok-ids.ensures.ok
 
 pub bounds-updates-n : goal.bounds-updates-n
-bounds-updates-n c = number_within c.args.updates.now c.args.graph.now c.requires.graph c.in-Some-index_of.n c.in-Some.id.now c.in-Some-index_of.ensures.found
+bounds-updates-n c =
+    let at = c.number_of-n.ensures.number in
+    number_within c.args.updates.now c.args.graph.now c.requires.graph c.number_of-n.result at.0 at.2
 
 pub loop-i-preserved : goal.loop-i-preserved
 loop-i-preserved c =
     let H = c.args.updates.now in
+    let at = c.number_of-n.ensures.number in
     subst (HasAdded c.add.new.self) (ap (λ (u : UpdateView). take c.loop-i.i (by_identifier H) ++ u ∷ []) c.index-updates-n.is
-    ∙ sym (ordered_item H c.args.graph.now c.requires.graph c.requires.legal c.loop-i.i c.in-Some-index_of.n c.in_ok-ids.ids c.in-Some.id.now c.index-updates-n.result c.in_ok-ids.ensures.ok (sym c.in-Some.ensures.value) c.in-Some-index_of.ensures.found))
+    ∙ sym (ordered_item H c.args.graph.now c.requires.graph c.requires.legal c.loop-i.i c.number_of-n.result c.in_ok-ids.ids at.0 c.index-updates-n.result c.in_ok-ids.ensures.ok at.1 at.2))
     (c.in_ok-add.ensures.ok (take c.loop-i.i (by_identifier H)) c.loop-i.invariant)
 
 pub returns : goal.returns
