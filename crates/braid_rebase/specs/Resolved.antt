@@ -54,7 +54,7 @@ pub record IsResolved (S : List Row) (change : Change) (resolved : Resolved) : T
   pub deletes : resolved.deletes.items ≡ places_at (places_of S) (row_ranges S change)
 
 -- the places of the seen rows that ranges reach over, as far as there are such: from the one before the first range up to the end of the last
-pub record IsReached (S : List Row) (reach : Reach) : Type 0 where
+pub record IsReachIn (S : List Row) (reach : Reach) : Type 0 where
   pub first : reach.first ≡ first_needed reach.ranges.items
   pub end : reach.end ≡ last_end reach.ranges.items
   pub places : reach.places.items ≡ take (reach.end - reach.first) (drop reach.first (places_of S))

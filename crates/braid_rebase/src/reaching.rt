@@ -1,12 +1,13 @@
 ghost use Rattle.std.specs.Prelude.{◌≡◌, Some, IfOk, IfErr};
 ghost use Rattle.braid_change.specs.Changes.{IsShaped};
 ghost use Rattle.braid_change.specs.Splices.{ranges};
+ghost use Rattle.braid_change.specs.declared.change.Change.TheVariants.{Body, Patches};
 ghost use Rattle.braid_tree.specs.Seen.{seen_rows};
-ghost use Rattle.braid_rebase.specs.Resolved.{row_chars, IsReached, IsRangeFault};
+ghost use Rattle.braid_rebase.specs.Resolved.{row_chars, IsReachIn, IsRangeFault};
 
-use crate::ranges::{ranges_of, reach};
+use crate::ranges::{bounds_of, find_past, whole_range};
 use crate::resolving::RebaseFault;
-use braid_change::{Change, Patch, joined};
+use braid_change::{Change, Patch, Text, joined};
 use braid_ids::{Marks, Memory};
 use braid_tree::{At, Document};
 use std::alloc::Global;
@@ -23,10 +24,8 @@ pub struct Reach {
     pub places: Vec<At>,
 }
 
-/// The ranges that a change replaces in what marked versions see, with the places that they reach over.
-///
-/// Where all places that joined patches reach over are there, no patch ends past the text, and the document's elements
-/// need not be counted.
+/// The ranges that a change replaces in what marked versions see, with the places that they reach over: all of it for a
+/// body, and patches are joined.
 ///
 /// Errors: `OutOfRange` with the first joined patch that ends past the text, or `Memory`.
 pub fn reach_of<D: Document>(
@@ -38,35 +37,74 @@ pub fn reach_of<D: Document>(
     requires shaped { IsShaped change.now }
     ensures ranges { IfOk result (λ reach. ranges (row_chars
         (seen_rows marks.now (D.removed doc.now) (D.rows doc.now))) change.now ≡ Some reach.ranges.items) }
-    ensures reached { IfOk result (λ reach. IsReached (seen_rows marks.now (D.removed doc.now)
-        (D.rows doc.now)) reach) }
+    ensures reach { IfOk result (λ reach. IsReachIn (seen_rows marks.now (D.removed doc.now) (D.rows doc.now)) reach) }
     ensures fault { IfErr result (λ fault. IsRangeFault
         (row_chars (seen_rows marks.now (D.removed doc.now) (D.rows doc.now))) change.now fault) }
 {
-    if let Change::Patches(patches) = change {
-        let list = joined(alloc, patches.get())?;
-        let reach = reached(alloc, doc, marks, list)?;
-        if reach.first as usize + reach.places.len() == reach.end as usize {
-            return Ok(reach);
-        }
+    match change {
+        Change::Body(text) => Ok(body_reach(alloc, doc, marks, text)?),
+        Change::Patches(patches) => patches_reach(alloc, doc, marks, patches.get()),
     }
-    let ranges = ranges_of(alloc, change, doc.len(marks))?;
-    let reach = reached(alloc, doc, marks, ranges)?;
-    Ok(reach)
+}
+
+/// The range of a body.
+fn body_reach<D: Document>(
+    alloc: Global,
+    doc: &D,
+    marks: &Marks,
+    text: &Text,
+) -> Result<Reach, Memory>
+    ensures ranges { IfOk result (λ reach. ranges (row_chars
+        (seen_rows marks.now (D.removed doc.now) (D.rows doc.now))) (Body text.now) ≡ Some reach.ranges.items) }
+    ensures reach { IfOk result (λ reach. IsReachIn (seen_rows marks.now (D.removed doc.now) (D.rows doc.now)) reach) }
+{
+    let list = whole_range(alloc, text, doc.len(marks))?;
+    with_places(alloc, doc, marks, list)
+}
+
+/// The joined patches, where each ends within the text.
+///
+/// Where all places that they reach over are there, no patch ends past it, and the document's elements need not be
+/// counted.
+fn patches_reach<D: Document>(
+    alloc: Global,
+    doc: &D,
+    marks: &Marks,
+    patches: &[Patch],
+) -> Result<Reach, RebaseFault>
+    requires shaped { IsShaped (Patches patches.now) }
+    ensures ranges { IfOk result (λ reach. ranges (row_chars
+        (seen_rows marks.now (D.removed doc.now) (D.rows doc.now))) (Patches patches.now) ≡ Some reach.ranges.items) }
+    ensures reach { IfOk result (λ reach. IsReachIn (seen_rows marks.now (D.removed doc.now) (D.rows doc.now)) reach) }
+    ensures fault { IfErr result (λ fault. IsRangeFault
+        (row_chars (seen_rows marks.now (D.removed doc.now) (D.rows doc.now))) (Patches patches.now) fault) }
+{
+    let list = joined(alloc, patches)?;
+    let reach = with_places(alloc, doc, marks, list)?;
+    if reach.first as usize + reach.places.len() == reach.end as usize {
+        return Ok(reach);
+    }
+    let count = doc.len(marks);
+    match find_past(&reach.ranges, count) {
+        Some(n) => Err(RebaseFault::OutOfRange {
+            patch: n as u32,
+            len: count,
+        }),
+        None => Ok(reach),
+    }
 }
 
 /// Ranges with the places that they reach over.
-fn reached<D: Document>(
+fn with_places<D: Document>(
     alloc: Global,
     doc: &D,
     marks: &Marks,
     ranges: Vec<Patch>,
 ) -> Result<Reach, Memory>
     ensures ranges { IfOk result (λ reach. reach.ranges.items ≡ ranges.items) }
-    ensures reached { IfOk result (λ reach. IsReached (seen_rows marks.now (D.removed doc.now)
-        (D.rows doc.now)) reach) }
+    ensures reach { IfOk result (λ reach. IsReachIn (seen_rows marks.now (D.removed doc.now) (D.rows doc.now)) reach) }
 {
-    let (first, end) = reach(&ranges);
+    let (first, end) = bounds_of(&ranges);
     let places = doc.visible_between(alloc, marks, first, end)?;
     Ok(Reach {
         ranges,

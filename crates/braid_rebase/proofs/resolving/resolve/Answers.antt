@@ -13,7 +13,7 @@ pub deletes_in-requires : goal.deletes_in-requires
 deletes_in-requires g c =
     let S = seen_rows c.in-Ok.marks (g.D.Document.removed c.args.doc.now) (g.D.Document.rows c.args.doc.now) in
     let reach = c.in_ok-reach.reach in
-    let has = c.in_ok-reach.ensures.reached in
+    let has = c.in_ok-reach.ensures.reach in
     let e = ap (ranges (row_chars S)) (sym c.change.ensures.value) ∙ c.in_ok-reach.ensures.ranges in
     record {
       ranges = subst (λ (rs : List Patch). AreRanges reach.first (reach.first + length c.deref.result.now) rs) (sym c.deref-2.ensures.value)
@@ -24,7 +24,7 @@ pub runs_in-requires-clause-ranges : goal.runs_in-requires-clause-ranges
 runs_in-requires-clause-ranges g c =
     let S = seen_rows c.in-Ok.marks (g.D.Document.removed c.args.doc.now) (g.D.Document.rows c.args.doc.now) in
     let reach = c.in_ok-reach.reach in
-    let has = c.in_ok-reach.ensures.reached in
+    let has = c.in_ok-reach.ensures.reach in
     let e = ap (ranges (row_chars S)) (sym c.change.ensures.value) ∙ c.in_ok-reach.ensures.ranges in
     piece_lent S c.args.update.now.change reach.ranges.items reach.ranges.items c.deref-3.result.now reach.places.items reach.first reach.end c.change.ensures.valid.shaped e refl has.first has.end has.places c.deref-3.ensures.value
 
@@ -38,7 +38,7 @@ pub returns-clause-ok : goal.returns-clause-ok
 returns-clause-ok g c =
     let S = seen_rows c.in-Ok.marks (g.D.Document.removed c.args.doc.now) (g.D.Document.rows c.args.doc.now) in
     let reach = c.in_ok-reach.reach in
-    let has = c.in_ok-reach.ensures.reached in
+    let has = c.in_ok-reach.ensures.reach in
     let list = reach.ranges.items in
     let places = reach.places.items in
     let e = ap (ranges (row_chars S)) (sym c.change.ensures.value) ∙ c.in_ok-reach.ensures.ranges in (
