@@ -36,10 +36,11 @@ pub fn reach_of<D: Document>(
 ) -> Result<Reach, RebaseFault>
     requires shaped { IsShaped change.now }
     ensures ranges { IfOk result (λ reach. ranges (row_chars
-        (seen_rows marks.now (D.removed doc.now) (D.rows doc.now))) change.now ≡ Some reach.ranges.items) }
-    ensures reach { IfOk result (λ reach. IsReachIn (seen_rows marks.now (D.removed doc.now) (D.rows doc.now)) reach) }
+        (seen_rows marks.now (D.row_deletions doc.now) (D.rows doc.now))) change.now ≡ Some reach.ranges.items) }
+    ensures reach { IfOk result (λ reach. IsReachIn
+        (seen_rows marks.now (D.row_deletions doc.now) (D.rows doc.now)) reach) }
     ensures fault { IfErr result (λ fault. IsRangeFault
-        (row_chars (seen_rows marks.now (D.removed doc.now) (D.rows doc.now))) change.now fault) }
+        (row_chars (seen_rows marks.now (D.row_deletions doc.now) (D.rows doc.now))) change.now fault) }
 {
     match change {
         Change::Body(text) => Ok(body_reach(alloc, doc, marks, text)?),
@@ -55,8 +56,9 @@ fn body_reach<D: Document>(
     text: &Text,
 ) -> Result<Reach, Memory>
     ensures ranges { IfOk result (λ reach. ranges (row_chars
-        (seen_rows marks.now (D.removed doc.now) (D.rows doc.now))) (Body text.now) ≡ Some reach.ranges.items) }
-    ensures reach { IfOk result (λ reach. IsReachIn (seen_rows marks.now (D.removed doc.now) (D.rows doc.now)) reach) }
+        (seen_rows marks.now (D.row_deletions doc.now) (D.rows doc.now))) (Body text.now) ≡ Some reach.ranges.items) }
+    ensures reach { IfOk result (λ reach. IsReachIn
+        (seen_rows marks.now (D.row_deletions doc.now) (D.rows doc.now)) reach) }
 {
     let list = whole_range(alloc, text, doc.len(marks))?;
     with_places(alloc, doc, marks, list)
@@ -73,11 +75,13 @@ fn patches_reach<D: Document>(
     patches: &[Patch],
 ) -> Result<Reach, RebaseFault>
     requires shaped { IsShaped (Patches patches.now) }
-    ensures ranges { IfOk result (λ reach. ranges (row_chars
-        (seen_rows marks.now (D.removed doc.now) (D.rows doc.now))) (Patches patches.now) ≡ Some reach.ranges.items) }
-    ensures reach { IfOk result (λ reach. IsReachIn (seen_rows marks.now (D.removed doc.now) (D.rows doc.now)) reach) }
+    ensures ranges { IfOk result (λ reach. ranges
+        (row_chars (seen_rows marks.now (D.row_deletions doc.now) (D.rows doc.now))) (Patches patches.now)
+        ≡ Some reach.ranges.items) }
+    ensures reach { IfOk result (λ reach. IsReachIn
+        (seen_rows marks.now (D.row_deletions doc.now) (D.rows doc.now)) reach) }
     ensures fault { IfErr result (λ fault. IsRangeFault
-        (row_chars (seen_rows marks.now (D.removed doc.now) (D.rows doc.now))) (Patches patches.now) fault) }
+        (row_chars (seen_rows marks.now (D.row_deletions doc.now) (D.rows doc.now))) (Patches patches.now) fault) }
 {
     let list = joined(alloc, patches)?;
     let reach = with_places(alloc, doc, marks, list)?;
@@ -102,7 +106,8 @@ fn with_places<D: Document>(
     ranges: Vec<Patch>,
 ) -> Result<Reach, Memory>
     ensures ranges { IfOk result (λ reach. reach.ranges.items ≡ ranges.items) }
-    ensures reach { IfOk result (λ reach. IsReachIn (seen_rows marks.now (D.removed doc.now) (D.rows doc.now)) reach) }
+    ensures reach { IfOk result (λ reach. IsReachIn
+        (seen_rows marks.now (D.row_deletions doc.now) (D.rows doc.now)) reach) }
 {
     let (first, end) = bounds_of(&ranges);
     let places = doc.visible_between(alloc, marks, first, end)?;

@@ -75,9 +75,10 @@ pub fn resolve<D: Document>(
 ) -> Result<Resolved, RebaseFault>
     requires held { HoldsAll graph.now update.now.parents }
     ensures ok { IfOk result (λ resolved. (S : List Row)
-        × IsSeenAt graph.now update.now.parents (D.removed doc.now) (D.rows doc.now) S × IsResolved S update.now.change resolved) }
+        × IsSeenAt graph.now update.now.parents (D.row_deletions doc.now) (D.rows doc.now) S
+        × IsResolved S update.now.change resolved) }
     ensures level { IfOk result (λ resolved. resolved.level ≡ 1 + greatest_by (level_of graph.now) update.now.parents) }
-    ensures fault { IfErr result (λ fault. IsRebaseFault graph.now (D.removed doc.now)
+    ensures fault { IfErr result (λ fault. IsRebaseFault graph.now (D.row_deletions doc.now)
         (D.rows doc.now) update.now fault) }
 {
     // The parents are held, so there was no memory.

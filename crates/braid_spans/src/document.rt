@@ -135,7 +135,7 @@ impl Document for SpanDocument {
 
     ghost rows = { λ d. rows_of (spelled d.runs) };
 
-    ghost removed = { λ d. deletions_of (spelled d.runs) };
+    ghost row_deletions = { λ d. deletions_of (spelled d.runs) };
 
     ghost room = { λ d. d.room };
 

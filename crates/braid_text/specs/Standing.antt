@@ -20,8 +20,8 @@ abbrev pub rows_in : SpanView → List Row
 rows_in d = rows_of (spelled d.runs)
 
 -- and what deletes them
-abbrev pub removed_in : SpanView → List RowDeletion
-removed_in d = removals_of (spelled d.runs)
+abbrev pub row_deletions_in : SpanView → List RowDeletion
+row_deletions_in d = removals_of (spelled d.runs)
 
 abbrev pub stamp_in : Version → Stamp
 stamp_in v = record { id = v.id; level = v.level }

@@ -4,7 +4,7 @@ ghost use Rattle.std.specs.Prelude.{◌≡◌, ◌+◌, ◌-◌, ◌*◌, ◌<�
 ghost use Rattle.std.specs.List.Sorted.{IsPermutation};
 ghost use Rattle.braid_tree.specs.Rows.{HasRoomFor, Spends, AreNewOrdinals, KeepsPlaces, AreKnown};
 ghost use Rattle.braid_text.specs.Puts.{AreOver, AreThere, ListsWithRuns, total_len, insertions_at, deletion_by};
-ghost use Rattle.braid_text.specs.Standing.{rows_in, removed_in};
+ghost use Rattle.braid_text.specs.Standing.{rows_in, row_deletions_in};
 
 use braid_ids::Id;
 use braid_rebase::{Resolved, Run};
@@ -21,7 +21,7 @@ pub fn add_version(doc: &mut SpanDocument, id: Id, resolved: &Resolved)
     ensures stamps { doc.new.stamps ≡ doc.old.stamps ++ record { id = id; level = resolved.now.level } ∷ [] }
     ensures placed { ListsWithRuns doc.new.stamps (rows_in doc.old) (rows_in doc.new) resolved.now.runs.items }
     ensures deletions { IsPermutation
-        (removed_in doc.old ++ map (deletion_by (length doc.old.stamps)) resolved.now.deletes.items) (removed_in doc.new) }
+        (row_deletions_in doc.old ++ map (deletion_by (length doc.old.stamps)) resolved.now.deletes.items) (row_deletions_in doc.new) }
     ensures known { AreKnown doc.new.stamps (rows_in doc.new) }
     ensures runs { length doc.new.runs ≤ length doc.old.runs
         + 2 * (insertions_at resolved.now.runs.items + length resolved.now.deletes.items) }
@@ -42,7 +42,7 @@ fn put_runs(doc: &mut SpanDocument, runs: &[Run])
     ensures stamps { doc.new.stamps ≡ doc.old.stamps }
     ensures placed { ListsWithRuns doc.old.stamps (rows_in doc.old) (rows_in doc.new) runs.now }
     ensures places { KeepsPlaces (rows_in doc.old) (rows_in doc.new) }
-    ensures deletions { removed_in doc.new ≡ removed_in doc.old }
+    ensures deletions { row_deletions_in doc.new ≡ row_deletions_in doc.old }
     ensures room { Spends doc.old.room doc.new.room 0 (total_len runs.now) 0 }
     ensures known { AreKnown doc.new.stamps (rows_in doc.new) }
     ensures runs { length doc.new.runs ≤ length doc.old.runs + 2 * insertions_at runs.now }

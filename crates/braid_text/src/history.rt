@@ -8,7 +8,7 @@ ghost use Rattle.braid_text.specs.Puts.{total_len};
 ghost use Rattle.braid_text.specs.Histories.{graph_of, text_at, elements_of, deletions_of};
 ghost use Rattle.braid_text.specs.Answers.{needs_of, HasRoom, IsAnswer};
 ghost use Rattle.braid_text.specs.RunCounts.{insertions_of};
-ghost use Rattle.braid_text.specs.Standing.{Stands, IsTakable, rows_in, removed_in};
+ghost use Rattle.braid_text.specs.Standing.{Stands, IsTakable, rows_in, row_deletions_in};
 ghost use Rattle.braid_text.specs.declared.accept.Accept.TheVariants.{New, Known};
 
 use crate::accept::Accept;
@@ -35,8 +35,8 @@ impl History {
     /// What an update adds where it can be taken, or the answer that it gets.
     pub fn judge(&self, alloc: Global, update: &Update, room: &Room) -> Result<Resolved, Accept>
         requires stands { Stands self.now.updates.items self.now.graph self.now.document.stamps
-            (rows_in self.now.document) (removed_in self.now.document) }
-        ensures ok { IfOk result (λ resolved. IsTakable self.now.updates.items (removed_in self.now.document)
+            (rows_in self.now.document) (row_deletions_in self.now.document) }
+        ensures ok { IfOk result (λ resolved. IsTakable self.now.updates.items (row_deletions_in self.now.document)
             (rows_in self.now.document) update.now resolved) }
         ensures room { OnOk result (HasRoom (needs_of self.now.updates.items update.now) room.now) }
         ensures refusal { IfErr result (λ answer. IsAnswer room.now self.now.updates.items update.now answer
@@ -76,8 +76,8 @@ impl History {
     /// Errors: `Memory` where there was none to grow; nothing is changed then.
     pub fn take(&mut self, alloc: Global, update: Update, resolved: Resolved) -> Result<(), Memory>
         requires stands { Stands self.old.updates.items self.old.graph self.old.document.stamps
-            (rows_in self.old.document) (removed_in self.old.document) }
-        requires takable { IsTakable self.old.updates.items (removed_in self.old.document)
+            (rows_in self.old.document) (row_deletions_in self.old.document) }
+        requires takable { IsTakable self.old.updates.items (row_deletions_in self.old.document)
             (rows_in self.old.document) update resolved }
         requires versions { length self.old.updates.items < 524288 }
         requires elements { length (elements_of self.old.updates.items) +
@@ -87,7 +87,7 @@ impl History {
         ensures taken { OnOk result (self.new.updates.items ≡ self.old.updates.items ++ update ∷ []) }
         ensures kept { OnErr result (self.new.updates.items ≡ self.old.updates.items) }
         ensures stands { Stands self.new.updates.items self.new.graph self.new.document.stamps
-            (rows_in self.new.document) (removed_in self.new.document) }
+            (rows_in self.new.document) (row_deletions_in self.new.document) }
         ensures runs { OnOk result (length self.new.document.runs ≤ length self.old.document.runs
             + 2 * (insertions_of update.change + (needs_of self.old.updates.items update).deletions)) }
         ensures kept_runs { OnErr result (self.new.document.runs ≡ self.old.document.runs) }
@@ -104,8 +104,8 @@ impl History {
     /// Errors: `Memory` where there was none to grow; graph and document are unchanged then.
     fn prepare(&mut self, alloc: Global, update: &Update, resolved: &Resolved) -> Result<Id, Memory>
         requires stands { Stands self.old.updates.items self.old.graph self.old.document.stamps
-            (rows_in self.old.document) (removed_in self.old.document) }
-        requires takable { IsTakable self.old.updates.items (removed_in self.old.document)
+            (rows_in self.old.document) (row_deletions_in self.old.document) }
+        requires takable { IsTakable self.old.updates.items (row_deletions_in self.old.document)
             (rows_in self.old.document) update.now resolved.now }
         requires versions { length self.old.updates.items < 524288 }
         requires elements { length (elements_of self.old.updates.items) +
@@ -119,7 +119,7 @@ impl History {
         ensures updates { self.new.updates.items ≡ self.old.updates.items }
         ensures stamps { self.new.document.stamps ≡ self.old.document.stamps }
         ensures rows { rows_in self.new.document ≡ rows_in self.old.document }
-        ensures removed { removed_in self.new.document ≡ removed_in self.old.document }
+        ensures removed { row_deletions_in self.new.document ≡ row_deletions_in self.old.document }
         ensures runs { self.new.document.runs ≡ self.old.document.runs }
         ensures room { OnOk result (HasRoomFor self.new.document.room 1 (total_len resolved.now.runs.items)
             (length resolved.now.deletes.items)) }
@@ -139,7 +139,7 @@ impl History {
     /// What is read at a frontier.
     pub fn read(&self, alloc: Global, at: &Frontier) -> Result<Text, Unknown>
         requires stands { Stands self.now.updates.items self.now.graph self.now.document.stamps
-            (rows_in self.now.document) (removed_in self.now.document) }
+            (rows_in self.now.document) (row_deletions_in self.now.document) }
         ensures ok { IfOk result (λ text. HoldsAll (graph_of self.now.updates.items) at.now
             × (text ≡ text_at self.now.updates.items at.now)) }
         ensures fault { IfErr result (λ unknown. IsUnknown (graph_of self.now.updates.items) at.now unknown) }

@@ -34,14 +34,14 @@ impl Model for Resource {
     ghost use Rattle.std.specs.Prelude.{◌≤◌, List, length};
     ghost use Rattle.braid_change.specs.Updates.{UpdateView};
     ghost use Rattle.braid_text.specs.RunCounts.{most_runs};
-    ghost use Rattle.braid_text.specs.Standing.{Stands, rows_in, removed_in};
+    ghost use Rattle.braid_text.specs.Standing.{Stands, rows_in, row_deletions_in};
 
     ghost Value = { List UpdateView };
 
     ghost view = { λ r. r.history.updates.items };
 
     ghost invariant = { λ r. Stands r.history.updates.items r.history.graph r.history.document.stamps
-        (rows_in r.history.document) (removed_in r.history.document)
+        (rows_in r.history.document) (row_deletions_in r.history.document)
         × (length r.history.document.runs ≤ most_runs r.history.updates.items) };
 }
 

@@ -7,9 +7,9 @@ use Rattle.std.proofs.lemmas.List.{length-append, length-map, map-append, get_or
 use Rattle.std.proofs.lemmas.List.Elements.{All-append, All-take, All-drop, All-nil, All-cons, All-same, All-weaker}
 use Rattle.std.proofs.lemmas.Option.{slice_get_within, slice_get-get_or}
 use Rattle.braid_tree.specs.declared.at.At.{At}
-use Rattle.braid_tree.specs.declared.version.Version.{Version}
+use Rattle.braid_tree.specs.declared.version.PlainVersion.{PlainVersion}
 use Rattle.braid_tree.specs.declared.row.PlainRow.{PlainRow}
-use Rattle.braid_tree.specs.declared.removal.Removal.{Removal}
+use Rattle.braid_tree.specs.declared.deletion.PlainDeletion.{PlainDeletion}
 use Rattle.braid_tree.specs.Rows.{Row, Stamp, RowDeletion, HasPlace, AreNewOrdinals, AreKnown, PutsRun, PutsOne, place}
 use Rattle.braid_tree.specs.Inside.{stamps_in, rows_in, row_of, deletions_in, deletion_of, new_rows, last_below, IsPlaceOf, AreLinked, IsNewest, HaveOwnPlaces, IsKept}
 use Rattle.braid_tree.proofs.Links.{get_append, get_end, last_append, last_new, last_other, last_absent}
@@ -51,7 +51,7 @@ lacks_new rows ds at listed none n d e s =
     let f : Some (get_or ds n d) ≡ Some d = sym (slice_get-get_or ds n d l) ∙ e in
     let g : get_or ds n d ≡ d = cc f in none (subst (HasPlace rows) s (subst (λ (x : RowDeletion). HasPlace rows x.at) g (listed n d l)))
 
-newest_run : (rows : List Row) (xs : List Removal) (version : ℕ) (origin : Option At) (n : ℕ) (cs : List ℕ) → All (λ (d : RowDeletion). HasPlace rows d.at) (deletions_in xs) → AreNewOrdinals rows version n → All (IsNewest xs) (new_rows version origin n cs)
+newest_run : (rows : List Row) (xs : List PlainDeletion) (version : ℕ) (origin : Option At) (n : ℕ) (cs : List ℕ) → All (λ (d : RowDeletion). HasPlace rows d.at) (deletions_in xs) → AreNewOrdinals rows version n → All (IsNewest xs) (new_rows version origin n cs)
 newest_run rows xs version origin n [] listed next = All-nil (IsNewest xs)
 newest_run rows xs version origin n (c ∷ cs) listed next =
     All-cons (IsNewest xs) (record { at = place version n; character = c; origin = origin; newest = None }) (new_rows version (Some (place version n)) (n + 1) cs)
@@ -59,7 +59,7 @@ newest_run rows xs version origin n (c ∷ cs) listed next =
     (newest_run rows xs version (Some (place version n)) (n + 1) cs listed (λ m le. next m (omega (arith, le))))
 
 -- a run's rows, put together between the others
-pub insert_kept : (vs : List Version) (rows new : List PlainRow) (xs : List Removal) (version : ℕ) (after : Option At) (n : ℕ) (cs : List ℕ) (p : ℕ) → IsKept vs rows xs
+pub insert_kept : (vs : List PlainVersion) (rows new : List PlainRow) (xs : List PlainDeletion) (version : ℕ) (after : Option At) (n : ℕ) (cs : List ℕ) (p : ℕ) → IsKept vs rows xs
     → MatchOption after (Unit {0}) (HasPlace (rows_in rows)) → AreNewOrdinals (rows_in rows) version n → version < length (stamps_in vs) → p ≤ length rows
     → new ≡ take p rows ++ (new_rows version after n cs ++ drop p rows) → length new < 2 ^ 32 → IsKept vs new xs
 insert_kept vs rows new xs version after n cs p kept there next lt within e few = record {
@@ -79,7 +79,7 @@ insert_kept vs rows new xs version after n cs p kept there next lt within e few 
     put = puts_run rows new version after n cs p within e
 
 -- a deletion at the end, to which its row now leads
-module _ (vs : List Version) (rows : List PlainRow) (xs xs' : List Removal) (at : At) (k n by : ℕ) (r : PlainRow) (kept : IsKept vs rows xs) (here : IsPlaceOf (rows_in rows) at k) (is : r ≡ get_or rows k r)
+module _ (vs : List PlainVersion) (rows : List PlainRow) (xs xs' : List PlainDeletion) (at : At) (k n by : ℕ) (r : PlainRow) (kept : IsKept vs rows xs) (here : IsPlaceOf (rows_in rows) at k) (is : r ≡ get_or rows k r)
     (count : n ≡ length xs) (made : xs' ≡ xs ++ record { at = at; by = by; earlier = r.newest } ∷ []) where
   marked : PlainRow
   marked = record { at = r.at; character = r.character; origin = r.origin; newest = Some n }
@@ -118,11 +118,11 @@ module _ (vs : List Version) (rows : List PlainRow) (xs xs' : List Removal) (at 
     ];
   }
     where
-      at_end : (j : ℕ) (x : Removal) → j ≡ length xs → slice_get (xs ++ record { at = at; by = by; earlier = r.newest } ∷ []) j ≡ Some x → x.earlier ≡ last_below (deletions_in xs') j x.at
+      at_end : (j : ℕ) (x : PlainDeletion) → j ≡ length xs → slice_get (xs ++ record { at = at; by = by; earlier = r.newest } ∷ []) j ≡ Some x → x.earlier ≡ last_below (deletions_in xs') j x.at
       at_end j x e h =
           let s : Some (record { at = at; by = by; earlier = r.newest }) ≡ Some x = sym (get_end xs (record { at = at; by = by; earlier = r.newest })) ∙ ap (slice_get (xs ++ record { at = at; by = by; earlier = r.newest } ∷ [])) (sym e) ∙ h in
           let is_x : record { at = at; by = by; earlier = r.newest } ≡ x = cc s in
-          subst (λ (y : Removal). y.earlier ≡ last_below (deletions_in xs') j y.at) is_x
+          subst (λ (y : PlainDeletion). y.earlier ≡ last_below (deletions_in xs') j y.at) is_x
           (subst (λ (m : ℕ). r.newest ≡ last_below (deletions_in xs') m at) (sym e)
           (subst (λ (a : At). r.newest ≡ last_below (deletions_in xs') (length xs) a) at_r (newest_r ∙ sym (old_link (length xs) r.at (omega arith)))))
         where

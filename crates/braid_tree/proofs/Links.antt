@@ -10,7 +10,7 @@ use Rattle.braid_tree.specs.Rows.{RowDeletion}
 use Rattle.braid_tree.specs.Seen.{is_same_place, is_marked_deletion, is_deleted_by}
 use Rattle.braid_tree.specs.Inside.{is_of_place, last_below, deletion_of, deletions_in, AreLinked}
 use Rattle.braid_tree.specs.declared.at.At.{At}
-use Rattle.braid_tree.specs.declared.removal.Removal.{Removal}
+use Rattle.braid_tree.specs.declared.deletion.PlainDeletion.{PlainDeletion}
 use Rattle.std.proofs.lemmas.Bool.{eqb-true, eq-eqb, and_parts, cases_Bool}
 
 -- how far a link leads: above its number
@@ -145,16 +145,16 @@ last_absent ds (suc m) at lacks = go (last_absent ds m at lacks) (slice_get ds m
     go ih (Some d) e = ap (λ b. cond b (Some m) (last_below ds m at)) (other_place_false d.at at (lacks m d e)) ∙ ih
 
 -- A walk along the links of a place: what is left to look at decides what all of the deletions decide.
-pub record Walks (marks : List Bool) (xs : List Removal) (at : At) (link : Option ℕ) : Type 0 where
+pub record Walks (marks : List Bool) (xs : List PlainDeletion) (at : At) (link : Option ℕ) : Type 0 where
   pub front : ℕ
   pub within : front ≤ length xs
   pub leads : link ≡ last_below (deletions_in xs) front at
   pub decides : is_deleted_by marks (deletions_in xs) at ≡ list_any (is_marked_deletion marks at) (take front (deletions_in xs))
 
-size_of : (xs : List Removal) → length (deletions_in xs) ≡ length xs
+size_of : (xs : List PlainDeletion) → length (deletions_in xs) ≡ length xs
 size_of xs = length-map xs deletion_of
 
-pub walk_begins : (marks : List Bool) (xs : List Removal) (at : At) (link : Option ℕ) → link ≡ last_below (deletions_in xs) (length xs) at → Walks marks xs at link
+pub walk_begins : (marks : List Bool) (xs : List PlainDeletion) (at : At) (link : Option ℕ) → link ≡ last_below (deletions_in xs) (length xs) at → Walks marks xs at link
 walk_begins marks xs at link h = record {
   front = length xs;
   within = omega arith;
@@ -162,17 +162,17 @@ walk_begins marks xs at link h = record {
   decides = ap (list_any (is_marked_deletion marks at)) (sym (take_all (length xs) (deletions_in xs) (omega (arith, size_of xs))));
 }
 
-pub walk_ends : (marks : List Bool) (xs : List Removal) (at : At) (link : Option ℕ) → Walks marks xs at link → link ≡ None → is_deleted_by marks (deletions_in xs) at ≡ false
+pub walk_ends : (marks : List Bool) (xs : List PlainDeletion) (at : At) (link : Option ℕ) → Walks marks xs at link → link ≡ None → is_deleted_by marks (deletions_in xs) at ≡ false
 walk_ends marks xs at link w h = w.decides ∙ last_none marks (deletions_in xs) at w.front (omega (arith, w.within, size_of xs)) (sym w.leads ∙ h)
 
 -- one step along a link, over the deletion x
-pub record Steps (marks : List Bool) (xs : List Removal) (at : At) (n : ℕ) (x : Removal) : Type 0 where
+pub record Steps (marks : List Bool) (xs : List PlainDeletion) (at : At) (n : ℕ) (x : PlainDeletion) : Type 0 where
   pub place : x.at ≡ at
   pub deleted : has_mark marks x.by ≡ true → is_deleted_by marks (deletions_in xs) at ≡ true
   pub goes_on : has_mark marks x.by ≡ false → Walks marks xs at x.earlier
   pub falls : reach x.earlier < suc n
 
-pub link_within : (marks : List Bool) (xs : List Removal) (at : At) (link : Option ℕ) (n : ℕ) → Walks marks xs at link → link ≡ Some n → n < length xs
+pub link_within : (marks : List Bool) (xs : List PlainDeletion) (at : At) (link : Option ℕ) (n : ℕ) → Walks marks xs at link → link ≡ Some n → n < length xs
 link_within marks xs at link n w h =
     let l = last_some marks (deletions_in xs) at w.front n (omega (arith, w.within, size_of xs)) (sym w.leads ∙ h) in omega (arith, l.below, w.within)
 
@@ -184,7 +184,7 @@ reach_below ds (suc m) at = go (is_of_place (slice_get ds m) at) (reach_below ds
     go true l = omega arith
     go false l = omega arith
 
-pub walk_steps : (marks : List Bool) (xs : List Removal) (at : At) (link : Option ℕ) (n : ℕ) (x : Removal) → AreLinked xs → Walks marks xs at link → link ≡ Some n → slice_get xs n ≡ Some x → Steps marks xs at n x
+pub walk_steps : (marks : List Bool) (xs : List PlainDeletion) (at : At) (link : Option ℕ) (n : ℕ) (x : PlainDeletion) → AreLinked xs → Walks marks xs at link → link ≡ Some n → slice_get xs n ≡ Some x → Steps marks xs at n x
 walk_steps marks xs at link n x linked w h here = record {
   place = same_at;
   deleted = λ t. w.decides ∙ l.rest ∙ ap (λ b. b || list_any (is_marked_deletion marks at) (take n (deletions_in xs))) (by ∙ t);
@@ -213,7 +213,7 @@ walk_steps marks xs at link n x linked w h here = record {
     by = ap (λ (d : RowDeletion). has_mark marks d.by) same
 
 -- the same, of what is read at the link's number
-pub walk_steps_at : (marks : List Bool) (xs : List Removal) (at : At) (link : Option ℕ) (n : ℕ) (none : Removal) → AreLinked xs → Walks marks xs at link → link ≡ Some n → Steps marks xs at n (get_or xs n none)
+pub walk_steps_at : (marks : List Bool) (xs : List PlainDeletion) (at : At) (link : Option ℕ) (n : ℕ) (none : PlainDeletion) → AreLinked xs → Walks marks xs at link → link ≡ Some n → Steps marks xs at n (get_or xs n none)
 walk_steps_at marks xs at link n none linked w h = walk_steps marks xs at link n (get_or xs n none) linked w h (slice_get-get_or xs n none (link_within marks xs at link n w h))
 
 -- a flag that says exactly whether a mark is set

@@ -5,9 +5,9 @@ use Rattle.braid_tree.specs.Keys.{key_cmp}
 use Rattle.braid_tree.specs.Rows.{Stamp, Row, RowDeletion, DocumentRoom, HasPlace, AreKnown, key_at, place}
 use Rattle.braid_tree.specs.Seen.{is_same_place}
 use Rattle.braid_tree.specs.declared.at.At.{At}
-use Rattle.braid_tree.specs.declared.version.Version.{Version}
+use Rattle.braid_tree.specs.declared.version.PlainVersion.{PlainVersion}
 use Rattle.braid_tree.specs.declared.row.PlainRow.{PlainRow}
-use Rattle.braid_tree.specs.declared.removal.Removal.{Removal}
+use Rattle.braid_tree.specs.declared.deletion.PlainDeletion.{PlainDeletion}
 
 -- what contracts see of a document of rows
 pub record PlainView : Type 0 where
@@ -16,10 +16,10 @@ pub record PlainView : Type 0 where
   pub deletions : List RowDeletion
   pub room : DocumentRoom
 
-abbrev pub stamp_of : Version → Stamp
+abbrev pub stamp_of : PlainVersion → Stamp
 stamp_of v = record { id = v.id; level = v.level }
 
-abbrev pub stamps_in : List Version → List Stamp
+abbrev pub stamps_in : List PlainVersion → List Stamp
 stamps_in vs = map stamp_of vs
 
 abbrev pub row_of : PlainRow → Row
@@ -28,10 +28,10 @@ row_of r = record { at = r.at; char = r.character; origin = r.origin }
 abbrev pub rows_in : List PlainRow → List Row
 rows_in rows = map row_of rows
 
-abbrev pub deletion_of : Removal → RowDeletion
+abbrev pub deletion_of : PlainDeletion → RowDeletion
 deletion_of x = record { at = x.at; by = x.by }
 
-abbrev pub deletions_in : List Removal → List RowDeletion
+abbrev pub deletions_in : List PlainDeletion → List RowDeletion
 deletions_in xs = map deletion_of xs
 
 -- how many more fit into this capacity and are still counted by 32 bits
@@ -71,11 +71,11 @@ last_below ds zero at = None
 last_below ds (suc n) at = if is_of_place (slice_get ds n) at then Some n else last_below ds n at
 
 -- each deletion leads to the one before it of the same place
-pub record AreLinked (xs : List Removal) : Type 0 where
-  pub earlier : (k : ℕ) (x : Removal) → slice_get xs k ≡ Some x → x.earlier ≡ last_below (deletions_in xs) k x.at
+pub record AreLinked (xs : List PlainDeletion) : Type 0 where
+  pub earlier : (k : ℕ) (x : PlainDeletion) → slice_get xs k ≡ Some x → x.earlier ≡ last_below (deletions_in xs) k x.at
 
 -- a row leads to the last deletion of its place
-abbrev pub IsNewest : List Removal → PlainRow → Type 0
+abbrev pub IsNewest : List PlainDeletion → PlainRow → Type 0
 IsNewest xs r = r.newest ≡ last_below (deletions_in xs) (length xs) r.at
 
 -- no two rows have one place
@@ -84,7 +84,7 @@ HaveOwnPlaces [] = Unit {0}
 HaveOwnPlaces (r ∷ rows) = ¬ (HasPlace rows r.at) × HaveOwnPlaces rows
 
 -- versions, rows and deletions that fit together
-pub record IsKept (vs : List Version) (rows : List PlainRow) (xs : List Removal) : Type 0 where
+pub record IsKept (vs : List PlainVersion) (rows : List PlainRow) (xs : List PlainDeletion) : Type 0 where
   pub known : AreKnown (stamps_in vs) (rows_in rows)
   pub own_places : HaveOwnPlaces (rows_in rows)
   pub listed : All (λ (d : RowDeletion). HasPlace (rows_in rows) d.at) (deletions_in xs)

@@ -22,7 +22,7 @@ pub trait Document: Drop {
     ghost rows: { Self → List Row };
 
     /// What deletes them, in some order.
-    ghost removed: { Self → List RowDeletion };
+    ghost row_deletions: { Self → List RowDeletion };
 
     /// How much room is left.
     ghost room: { Self → DocumentRoom };
@@ -35,12 +35,12 @@ pub trait Document: Drop {
     fn reserve(&mut self, versions: u32, elements: u32, deletions: u32) -> Result<(), Memory>
         requires few_versions { length (stamps self.old) + versions < 2 ^ 32 }
         requires few_elements { length (rows self.old) + elements < 2 ^ 32 }
-        requires few_deletions { length (removed self.old) + deletions < 2 ^ 32 }
+        requires few_deletions { length (row_deletions self.old) + deletions < 2 ^ 32 }
         ensures ok { OnOk result (HasRoomFor (room self.new) versions elements deletions) }
         ensures room { Spends (room self.old) (room self.new) 0 0 0 }
         ensures stamps { stamps self.new ≡ stamps self.old }
         ensures rows { rows self.new ≡ rows self.old }
-        ensures deletions { removed self.new ≡ removed self.old };
+        ensures deletions { row_deletions self.new ≡ row_deletions self.old };
 
     /// Begins a version with this identifier and level. Nothing is asked of the identifier; `insert_run` says where a
     /// run goes only where no other version has it.
@@ -48,7 +48,7 @@ pub trait Document: Drop {
         requires roomy { HasRoomFor (room self.old) 1 0 0 }
         ensures stamps { stamps self.new ≡ stamps self.old ++ record { id = id; level = level } ∷ [] }
         ensures rows { rows self.new ≡ rows self.old }
-        ensures deletions { removed self.new ≡ removed self.old }
+        ensures deletions { row_deletions self.new ≡ row_deletions self.old }
         ensures room { Spends (room self.old) (room self.new) 1 0 0 }
         ensures known { AreKnown (stamps self.old) (rows self.old) };
 
@@ -71,7 +71,7 @@ pub trait Document: Drop {
         ensures stamps { stamps self.new ≡ stamps self.old }
         ensures put { PutsRun (rows self.old) (rows self.new) (length (stamps self.old) - 1) after ordinal text.now }
         ensures placed { ListsWithRun (stamps self.old) (rows self.old) (rows self.new) after ordinal text.now }
-        ensures deletions { removed self.new ≡ removed self.old }
+        ensures deletions { row_deletions self.new ≡ row_deletions self.old }
         ensures room { Spends (room self.old) (room self.new) 0 (length text.now) 0 }
         ensures known { AreKnown (stamps self.new) (rows self.new) };
 
@@ -81,23 +81,23 @@ pub trait Document: Drop {
     fn delete(&mut self, at: At)
         requires begun { 0 < length (stamps self.old) }
         requires there { HasPlace (rows self.old) at }
-        requires once { ¬ (Contains (removed self.old) (record { at = at; by = length (stamps self.old) - 1 })) }
+        requires once { ¬ (Contains (row_deletions self.old) (record { at = at; by = length (stamps self.old) - 1 })) }
         requires roomy { HasRoomFor (room self.old) 0 0 1 }
-        ensures deletions { PutsOne (removed self.old) (record { at = at; by = length (stamps self.old) - 1 })
-            (removed self.new) }
+        ensures deletions { PutsOne (row_deletions self.old) (record { at = at; by = length (stamps self.old) - 1 })
+            (row_deletions self.new) }
         ensures stamps { stamps self.new ≡ stamps self.old }
         ensures rows { rows self.new ≡ rows self.old }
         ensures room { Spends (room self.old) (room self.new) 0 0 1 };
 
     /// How many elements the marked versions see: those of a marked version that no marked version deletes.
     fn len(&self, marks: &Marks) -> u32
-        ensures len { result ≡ length (seen_rows marks.now (removed self.now) (rows self.now)) };
+        ensures len { result ≡ length (seen_rows marks.now (row_deletions self.now) (rows self.now)) };
 
     /// The place of element number `n`, counted from 0, of those that the marked versions see. None where they see no
     /// more than `n`.
     fn visible_at(&self, marks: &Marks, n: u32) -> Option<At>
         ensures value { result ≡ option_map place_in (slice_get
-            (seen_rows marks.now (removed self.now) (rows self.now)) n) };
+            (seen_rows marks.now (row_deletions self.now) (rows self.now)) n) };
 
     /// The places of the elements from number `from` up to and without number `to`, counted from 0, of those that the
     /// marked versions see. Past the last there are none.
@@ -110,15 +110,15 @@ pub trait Document: Drop {
         from: u32,
         to: u32,
     ) -> Result<Vec<At>, Memory>
-        ensures ok { IfOk result (λ places. places.items
-            ≡ take (to - from) (drop from (map place_in (seen_rows marks.now (removed self.now) (rows self.now))))) };
+        ensures ok { IfOk result (λ places. places.items ≡ take (to - from) (drop from
+            (map place_in (seen_rows marks.now (row_deletions self.now) (rows self.now))))) };
 
     /// The characters of the elements that the marked versions see.
     ///
     /// Errors: `Memory` where there was none for them.
     fn text(&self, alloc: Global, marks: &Marks) -> Result<Vec<char>, Memory>
         ensures ok { IfOk result (λ text. text.items ≡ map char_in
-            (seen_rows marks.now (removed self.now) (rows self.now))) };
+            (seen_rows marks.now (row_deletions self.now) (rows self.now))) };
 
     /// How many elements are listed, deleted ones too.
     fn elements(&self) -> u32
@@ -127,5 +127,5 @@ pub trait Document: Drop {
 
     /// How many deletions are noted: pairs of an element and a version that deletes it.
     fn deletions(&self) -> u32
-        ensures count { result ≡ length (removed self.now) };
+        ensures count { result ≡ length (row_deletions self.now) };
 }

@@ -15,10 +15,10 @@
 #![tactic(auto)]
 
 mod at;
+mod deletion;
 mod document;
 pub mod laws;
 mod plain;
-mod removal;
 mod row;
 mod version;
 mod visible;

@@ -2,10 +2,10 @@ ghost use Rattle.std.specs.Prelude.{◌≡◌, []};
 ghost use Rattle.braid_tree.specs.Inside.{PlainView};
 
 use crate::at::At;
+use crate::deletion::PlainDeletion;
 use crate::document::Document;
-use crate::removal::Removal;
 use crate::row::{PlainRow, index_of, landing, put_run};
-use crate::version::Version;
+use crate::version::PlainVersion;
 use crate::visible::{count_visible, nth_visible, visible_places, visible_text};
 use braid_ids::{Id, Marks, Memory};
 use std::alloc::Global;
@@ -18,9 +18,9 @@ use std::marker::Model;
 /// rows; so what a version deletes by rising places costs one pass or two. A run moves what follows it once.
 #[derive(Drop)]
 pub struct PlainDocument {
-    versions: Vec<Version>,
+    versions: Vec<PlainVersion>,
     elements: Vec<PlainRow>,
-    removals: Vec<Removal>,
+    deletions: Vec<PlainDeletion>,
     /// The row that was put or looked up last. The next one is often that one or near behind it: only a hint.
     near: usize,
 }
@@ -34,15 +34,15 @@ impl Model for PlainDocument {
     ghost view = { λ d. record {
       stamps = stamps_in d.versions.items;
       rows = rows_in d.elements.items;
-      deletions = deletions_in d.removals.items;
+      deletions = deletions_in d.deletions.items;
       room = record {
         versions = free_in (vec_capacity d.versions) (vec_len d.versions);
         elements = free_in (vec_capacity d.elements) (vec_len d.elements);
-        deletions = free_in (vec_capacity d.removals) (vec_len d.removals);
+        deletions = free_in (vec_capacity d.deletions) (vec_len d.deletions);
       };
     } };
 
-    ghost invariant = { λ d. IsKept d.versions.items d.elements.items d.removals.items };
+    ghost invariant = { λ d. IsKept d.versions.items d.elements.items d.deletions.items };
 }
 
 impl PlainDocument {
@@ -55,7 +55,7 @@ impl PlainDocument {
         PlainDocument {
             versions: Vec::new(alloc),
             elements: Vec::new(alloc),
-            removals: Vec::new(alloc),
+            deletions: Vec::new(alloc),
             near: 0,
         }
     }
@@ -66,19 +66,19 @@ impl Document for PlainDocument {
 
     ghost rows = { λ d. d.rows };
 
-    ghost removed = { λ d. d.deletions };
+    ghost row_deletions = { λ d. d.deletions };
 
     ghost room = { λ d. d.room };
 
     fn reserve(&mut self, versions: u32, elements: u32, deletions: u32) -> Result<(), Memory> {
         self.versions.reserve(versions as usize)?;
         self.elements.reserve(elements as usize)?;
-        self.removals.reserve(deletions as usize)?;
+        self.deletions.reserve(deletions as usize)?;
         Ok(())
     }
 
     fn begin(&mut self, id: Id, level: u32) {
-        self.versions.push_reserved(Version { id, level });
+        self.versions.push_reserved(PlainVersion { id, level });
     }
 
     fn insert_run(&mut self, after: Option<At>, text: &[char], ordinal: u32) {
@@ -95,21 +95,21 @@ impl Document for PlainDocument {
 
     fn delete(&mut self, at: At) {
         let by = (self.versions.len() - 1) as u32;
-        let number = self.removals.len() as u32;
+        let number = self.deletions.len() as u32;
         let index = index_of(&self.elements, self.near, at);
         let row = &mut self.elements[index];
         let earlier = row.newest;
         row.newest = Some(number);
-        self.removals.push_reserved(Removal { at, by, earlier });
+        self.deletions.push_reserved(PlainDeletion { at, by, earlier });
         self.near = index;
     }
 
     fn len(&self, marks: &Marks) -> u32 {
-        count_visible(marks, &self.removals, &self.elements)
+        count_visible(marks, &self.deletions, &self.elements)
     }
 
     fn visible_at(&self, marks: &Marks, n: u32) -> Option<At> {
-        nth_visible(marks, &self.removals, &self.elements, n)
+        nth_visible(marks, &self.deletions, &self.elements, n)
     }
 
     fn visible_between(
@@ -119,11 +119,11 @@ impl Document for PlainDocument {
         from: u32,
         to: u32,
     ) -> Result<Vec<At>, Memory> {
-        visible_places(alloc, marks, &self.removals, &self.elements, from, to)
+        visible_places(alloc, marks, &self.deletions, &self.elements, from, to)
     }
 
     fn text(&self, alloc: Global, marks: &Marks) -> Result<Vec<char>, Memory> {
-        visible_text(alloc, marks, &self.removals, &self.elements)
+        visible_text(alloc, marks, &self.deletions, &self.elements)
     }
 
     fn elements(&self) -> u32 {
@@ -131,6 +131,6 @@ impl Document for PlainDocument {
     }
 
     fn deletions(&self) -> u32 {
-        self.removals.len() as u32
+        self.deletions.len() as u32
     }
 }

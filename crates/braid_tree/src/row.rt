@@ -3,7 +3,7 @@ ghost use Rattle.braid_tree.specs.Rows.{HasPlace, AreKnown};
 ghost use Rattle.braid_tree.specs.Inside.{stamps_in, rows_in, new_rows, IsPlaceOf, IsBefore, IsPassed, IsNotPassed};
 
 use crate::at::At;
-use crate::version::{Version, has_greater_key};
+use crate::version::{PlainVersion, has_greater_key};
 
 /// An element as it is kept.
 #[derive(Clone, Copy)]
@@ -67,7 +67,7 @@ fn index_before(rows: &[PlainRow], end: usize, at: At) -> usize
 /// What hangs below a passed neighbour has a greater key than that neighbour, so it is passed too. The first element
 /// that does not hang below the origin has a smaller key than one on the origin's path, and so than the new one. So
 /// the keys alone decide.
-pub fn landing(versions: &[Version], rows: &[PlainRow], start: usize, first: At) -> usize
+pub fn landing(versions: &[PlainVersion], rows: &[PlainRow], start: usize, first: At) -> usize
     requires start_in { start ≤ length rows.now }
     requires first_known { first.version < length versions.now }
     requires known { AreKnown (stamps_in versions.now) (rows_in rows.now) }

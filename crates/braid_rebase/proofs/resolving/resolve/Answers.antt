@@ -11,7 +11,7 @@ use Rattle.braid_rebase.proofs.resolving.resolve.Goals as goal
 
 pub deletes_in-requires : goal.deletes_in-requires
 deletes_in-requires g c =
-    let S = seen_rows c.in-Ok.marks (g.D.Document.removed c.args.doc.now) (g.D.Document.rows c.args.doc.now) in
+    let S = seen_rows c.in-Ok.marks (g.D.Document.row_deletions c.args.doc.now) (g.D.Document.rows c.args.doc.now) in
     let reach = c.in_ok-reach.reach in
     let has = c.in_ok-reach.ensures.reach in
     let e = ap (ranges (row_chars S)) (sym c.change.ensures.value) ∙ c.in_ok-reach.ensures.ranges in
@@ -22,7 +22,7 @@ deletes_in-requires g c =
 
 pub runs_in-requires-clause-ranges : goal.runs_in-requires-clause-ranges
 runs_in-requires-clause-ranges g c =
-    let S = seen_rows c.in-Ok.marks (g.D.Document.removed c.args.doc.now) (g.D.Document.rows c.args.doc.now) in
+    let S = seen_rows c.in-Ok.marks (g.D.Document.row_deletions c.args.doc.now) (g.D.Document.rows c.args.doc.now) in
     let reach = c.in_ok-reach.reach in
     let has = c.in_ok-reach.ensures.reach in
     let e = ap (ranges (row_chars S)) (sym c.change.ensures.value) ∙ c.in_ok-reach.ensures.ranges in
@@ -30,13 +30,13 @@ runs_in-requires-clause-ranges g c =
 
 pub runs_in-requires-clause-few : goal.runs_in-requires-clause-few
 runs_in-requires-clause-few g c =
-    let S = seen_rows c.in-Ok.marks (g.D.Document.removed c.args.doc.now) (g.D.Document.rows c.args.doc.now) in
+    let S = seen_rows c.in-Ok.marks (g.D.Document.row_deletions c.args.doc.now) (g.D.Document.rows c.args.doc.now) in
     let e = ap (ranges (row_chars S)) (sym c.change.ensures.value) ∙ c.in_ok-reach.ensures.ranges in
     omega (arith, inserts_few (row_chars S) c.args.update.now.change c.in_ok-reach.reach.ranges.items c.change.ensures.valid.shaped e)
 
 pub returns-clause-ok : goal.returns-clause-ok
 returns-clause-ok g c =
-    let S = seen_rows c.in-Ok.marks (g.D.Document.removed c.args.doc.now) (g.D.Document.rows c.args.doc.now) in
+    let S = seen_rows c.in-Ok.marks (g.D.Document.row_deletions c.args.doc.now) (g.D.Document.rows c.args.doc.now) in
     let reach = c.in_ok-reach.reach in
     let has = c.in_ok-reach.ensures.reach in
     let list = reach.ranges.items in

@@ -4,7 +4,7 @@ use Rattle.braid_tree.specs.declared.at.At.{At}
 use Rattle.braid_tree.specs.Rows.{Stamp, Row, RowDeletion, HasPlace, AreNewOrdinals}
 use Rattle.braid_tree.proofs.Callers.{next_begin}
 use Rattle.braid_text.specs.Puts.{AreThere, deletion_by}
-use Rattle.braid_text.specs.Standing.{rows_in, removed_in}
+use Rattle.braid_text.specs.Standing.{rows_in, row_deletions_in}
 use Rattle.braid_text.proofs.Putting.{there_more, there_at}
 use Rattle.braid_text.proofs.adding.add_version.Goals as goal
 
@@ -23,5 +23,5 @@ delete_all-requires-clause-there c =
 pub returns-clause-deletions : goal.returns-clause-deletions
 returns-clause-deletions c =
     let number : length (c.put_runs.new.doc.stamps) - 1 ≡ length (c.args.doc.now.stamps) = omega (arith, ap length c.put_runs.ensures.stamps, ap length c.begin.ensures.stamps, length-append (c.args.doc.now.stamps) (record { id = c.args.id; level = c.args.resolved.now.level } ∷ [])) in
-    let before : removed_in c.put_runs.new.doc ≡ removed_in c.args.doc.now = c.put_runs.ensures.deletions ∙ c.begin.ensures.deletions in
-    subst (λ (ds : List RowDeletion). IsPermutation ds (removed_in c.delete_all.new.self)) (λ i. before i ++ map (deletion_by (number i)) (c.deref-2.ensures.value i)) c.delete_all.ensures.deletions
+    let before : row_deletions_in c.put_runs.new.doc ≡ row_deletions_in c.args.doc.now = c.put_runs.ensures.deletions ∙ c.begin.ensures.deletions in
+    subst (λ (ds : List RowDeletion). IsPermutation ds (row_deletions_in c.delete_all.new.self)) (λ i. before i ++ map (deletion_by (number i)) (c.deref-2.ensures.value i)) c.delete_all.ensures.deletions

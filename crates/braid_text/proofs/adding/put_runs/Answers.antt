@@ -32,7 +32,7 @@ loop-run-preserved c =
     (subst (λ (s : List Stamp). ListsWithRun s before after r.after r.ordinal c.chars-text.result.now) inv.same c.insert_run.ensures.placed) in
     record {
       same = c.insert_run.ensures.stamps ∙ inv.same;
-      removed = c.insert_run.ensures.deletions ∙ inv.removed;
+      row_deletions = c.insert_run.ensures.deletions ∙ inv.row_deletions;
       known = c.insert_run.ensures.known;
       over = subst (λ (n : ℕ). AreOver after n rest) (sym more) (over_more before after (total_len (take i runs) + text_len r) rest kept over.2);
       next = subst (AreNewOrdinals after (length vs - 1)) (ap (λ (n : ℕ). n + text_len r) over.1 ∙ sym more) (next_put before after (length vs - 1) r.after r.ordinal r.text put (subst (AreNewOrdinals before (length vs - 1)) (sym over.1) inv.next));
@@ -61,7 +61,7 @@ loop-run-preserved-then-is_empty c =
     let empty : r.text ≡ [] = sym c.chars-text.ensures.value ∙ empty_text c.chars-text.result.now (sym c.is_empty.ensures ∙ c.if-is_empty.true) in
     record {
       same = inv.same;
-      removed = inv.removed;
+      row_deletions = inv.row_deletions;
       known = inv.known;
       over = subst (λ (n : ℕ). AreOver before n rest) (sym more) over.2;
       next = λ m l. inv.next m (omega (arith, l, more));

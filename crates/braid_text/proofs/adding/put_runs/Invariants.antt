@@ -1,7 +1,7 @@
 use Rattle.std.proofs.Common.{◌≡◌, ◌+◌, ◌-◌, ◌*◌, ◌≤◌, take, drop, length, List}
 use Rattle.braid_tree.specs.Rows.{Row, AreKnown, AreNewOrdinals, KeepsPlaces, Spends}
 use Rattle.braid_text.specs.Puts.{AreOver, ListsWithRuns, total_len, insertions_at}
-use Rattle.braid_text.specs.Standing.{rows_in, removed_in}
+use Rattle.braid_text.specs.Standing.{rows_in, row_deletions_in}
 use Rattle.braid_text.proofs.adding.put_runs.Given as goal
 
 -- what is left of the runs leads to what all of them lead to
@@ -10,7 +10,7 @@ invariant-loop-run l =
     let done = total_len (take l.run-index l.runs) in
     record {
       same : l.doc.stamps ≡ l.fn.doc.stamps;
-      removed : removed_in l.doc ≡ removed_in l.fn.doc;
+      removed : row_deletions_in l.doc ≡ row_deletions_in l.fn.doc;
       known : AreKnown (l.doc.stamps) (rows_in l.doc);
       over : AreOver (rows_in l.doc) done (drop l.run-index l.runs);
       next : AreNewOrdinals (rows_in l.doc) (length (l.fn.doc.stamps) - 1) done;

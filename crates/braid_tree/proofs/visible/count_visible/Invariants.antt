@@ -7,5 +7,5 @@ use Rattle.braid_tree.proofs.visible.count_visible.Given as goal
 abbrev pub invariant-loop-row : goal.invariant-loop-row
 invariant-loop-row l = record {
   few : l.count ≤ l.row-index;
-  all : l.count + length (seen_rows l.marks (deletions_in l.removals) (rows_in (drop l.row-index l.rows))) ≡ length (seen_rows l.marks (deletions_in l.removals) (rows_in l.rows));
+  all : l.count + length (seen_rows l.marks (deletions_in l.deletions) (rows_in (drop l.row-index l.rows))) ≡ length (seen_rows l.marks (deletions_in l.deletions) (rows_in l.rows));
 }

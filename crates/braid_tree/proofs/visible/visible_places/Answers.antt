@@ -9,7 +9,7 @@ use Rattle.braid_tree.proofs.visible.visible_places.Goals.{then-is_visible, then
 pub loop-row-preserved : goal.loop-row-preserved
 loop-row-preserved c =
     let marks = c.args.marks.now in
-    let ds = deletions_in c.args.removals.now in
+    let ds = deletions_in c.args.deletions.now in
     let rows = c.args.rows.now in
     let i = c.loop-row.row-index in
     let n = c.loop-row.number in
@@ -29,7 +29,7 @@ loop-row-preserved c =
 pub returns : goal.returns
 returns c =
     let marks = c.args.marks.now in
-    let ds = deletions_in c.args.removals.now in
+    let ds = deletions_in c.args.deletions.now in
     let rows = c.args.rows.now in
     let done = c.loop-row.places.items in
     let n = c.loop-row.number in

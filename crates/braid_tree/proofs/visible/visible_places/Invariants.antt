@@ -8,6 +8,6 @@ use Rattle.braid_tree.proofs.visible.visible_places.Given as goal
 abbrev pub invariant-loop-row : goal.invariant-loop-row
 invariant-loop-row l = record {
   few : l.number ≤ l.row-index;
-  all : l.places.items ++ window (l.from - l.number) (l.to - l.number) (map place_in (seen_rows l.marks (deletions_in l.removals) (rows_in (drop l.row-index l.rows))))
-      ≡ window l.from l.to (map place_in (seen_rows l.marks (deletions_in l.removals) (rows_in l.rows)));
+  all : l.places.items ++ window (l.from - l.number) (l.to - l.number) (map place_in (seen_rows l.marks (deletions_in l.deletions) (rows_in (drop l.row-index l.rows))))
+      ≡ window l.from l.to (map place_in (seen_rows l.marks (deletions_in l.deletions) (rows_in l.rows)));
 }

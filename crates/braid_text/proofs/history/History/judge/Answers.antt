@@ -4,7 +4,7 @@ use Rattle.braid_graph.specs.Ancestries.{IsLeastUnheld}
 use Rattle.braid_graph.specs.Frontiers.{frontier_of}
 use Rattle.braid_rebase.specs.Resolved.{IsRebaseFault}
 use Rattle.braid_text.specs.Puts.{total_len}
-use Rattle.braid_text.specs.Standing.{rows_in, removed_in}
+use Rattle.braid_text.specs.Standing.{rows_in, row_deletions_in}
 use Rattle.braid_text.proofs.Taking.{held_item, held_same, held_fits, not_contained, unknown_fits, past_fits, held_there, may, seen_there, need_is, over_fits, roomy, takable}
 use Rattle.braid_text.proofs.Grown.{few_elements}
 use Rattle.braid_text.proofs.history.History.judge.Goals as goal
@@ -42,7 +42,7 @@ returns-in-Err-OutOfRange-clause-refusal c =
     let es = c.args.self.now.graph in
     let vs = c.args.self.now.document.stamps in
     let rows = rows_in c.args.self.now.document in
-    let ds = removed_in c.args.self.now.document in
+    let ds = row_deletions_in c.args.self.now.document in
     let u = c.args.update.now in
     let stands = c.requires.stands in
     let new = subst (λ (i : List ℕ). Holds es i → ⊥) c.id.ensures.value c.in_default.ensures.none in
@@ -55,7 +55,7 @@ text_len-requires c =
     let es = c.args.self.now.graph in
     let vs = c.args.self.now.document.stamps in
     let rows = rows_in c.args.self.now.document in
-    let ds = removed_in c.args.self.now.document in
+    let ds = row_deletions_in c.args.self.now.document in
     let u = c.args.update.now in
     let stands = c.requires.stands in
     let new = subst (λ (i : List ℕ). Holds es i → ⊥) c.id.ensures.value c.in_default.ensures.none in
@@ -71,7 +71,7 @@ width_after-requires c =
     let es = c.args.self.now.graph in
     let vs = c.args.self.now.document.stamps in
     let rows = rows_in c.args.self.now.document in
-    let ds = removed_in c.args.self.now.document in
+    let ds = row_deletions_in c.args.self.now.document in
     let u = c.args.update.now in
     let stands = c.requires.stands in
     let new = subst (λ (i : List ℕ). Holds es i → ⊥) c.id.ensures.value c.in_default.ensures.none in
@@ -84,7 +84,7 @@ returns-in-Some-first_full-clause-refusal c =
     let es = c.args.self.now.graph in
     let vs = c.args.self.now.document.stamps in
     let rows = rows_in c.args.self.now.document in
-    let ds = removed_in c.args.self.now.document in
+    let ds = row_deletions_in c.args.self.now.document in
     let u = c.args.update.now in
     let stands = c.requires.stands in
     let new = subst (λ (i : List ℕ). Holds es i → ⊥) c.id.ensures.value c.in_default.ensures.none in
@@ -100,7 +100,7 @@ returns-in-None-clause-ok c =
     let es = c.args.self.now.graph in
     let vs = c.args.self.now.document.stamps in
     let rows = rows_in c.args.self.now.document in
-    let ds = removed_in c.args.self.now.document in
+    let ds = row_deletions_in c.args.self.now.document in
     let u = c.args.update.now in
     let stands = c.requires.stands in
     let new = subst (λ (i : List ℕ). Holds es i → ⊥) c.id.ensures.value c.in_default.ensures.none in
@@ -113,7 +113,7 @@ returns-in-None-clause-room c =
     let es = c.args.self.now.graph in
     let vs = c.args.self.now.document.stamps in
     let rows = rows_in c.args.self.now.document in
-    let ds = removed_in c.args.self.now.document in
+    let ds = row_deletions_in c.args.self.now.document in
     let u = c.args.update.now in
     let stands = c.requires.stands in
     let new = subst (λ (i : List ℕ). Holds es i → ⊥) c.id.ensures.value c.in_default.ensures.none in

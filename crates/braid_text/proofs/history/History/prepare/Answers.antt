@@ -1,6 +1,6 @@
 use Rattle.std.proofs.Common.{◌++◌, ◌∷◌, [], arith, ap, ◌∙◌}
 use Rattle.braid_text.specs.Puts.{total_len}
-use Rattle.braid_text.specs.Standing.{rows_in, removed_in}
+use Rattle.braid_text.specs.Standing.{rows_in, row_deletions_in}
 use Rattle.braid_text.proofs.Taking.{versions_kept, elements_kept, deletions_kept, fresh_there, parents_kept, deletions_taken, elements_taken, few_taken, over_there, deletes_kept, stands_after}
 use Rattle.braid_text.proofs.history.History.prepare.Goals as goal
 
@@ -10,7 +10,7 @@ text_len-requires c =
     let es = c.args.self.now.graph in
     let vs = c.args.self.now.document.stamps in
     let rows = rows_in c.args.self.now.document in
-    let ds = removed_in c.args.self.now.document in
+    let ds = row_deletions_in c.args.self.now.document in
     let u = c.args.update.now in
     let stands = c.requires.stands in
     let t = c.requires.takable in
@@ -22,7 +22,7 @@ overflow_cast-len c =
     let es = c.args.self.now.graph in
     let vs = c.args.self.now.document.stamps in
     let rows = rows_in c.args.self.now.document in
-    let ds = removed_in c.args.self.now.document in
+    let ds = row_deletions_in c.args.self.now.document in
     let u = c.args.update.now in
     let stands = c.requires.stands in
     let t = c.requires.takable in
@@ -34,7 +34,7 @@ reserve-requires-clause-few_versions c =
     let es = c.args.self.now.graph in
     let vs = c.args.self.now.document.stamps in
     let rows = rows_in c.args.self.now.document in
-    let ds = removed_in c.args.self.now.document in
+    let ds = row_deletions_in c.args.self.now.document in
     let u = c.args.update.now in
     let stands = c.requires.stands in
     let t = c.requires.takable in
@@ -46,7 +46,7 @@ reserve-requires-clause-few_elements c =
     let es = c.args.self.now.graph in
     let vs = c.args.self.now.document.stamps in
     let rows = rows_in c.args.self.now.document in
-    let ds = removed_in c.args.self.now.document in
+    let ds = row_deletions_in c.args.self.now.document in
     let u = c.args.update.now in
     let stands = c.requires.stands in
     let t = c.requires.takable in
@@ -58,7 +58,7 @@ reserve-requires-clause-few_deletions c =
     let es = c.args.self.now.graph in
     let vs = c.args.self.now.document.stamps in
     let rows = rows_in c.args.self.now.document in
-    let ds = removed_in c.args.self.now.document in
+    let ds = row_deletions_in c.args.self.now.document in
     let u = c.args.update.now in
     let stands = c.requires.stands in
     let t = c.requires.takable in
@@ -70,7 +70,7 @@ add-requires-clause-new c =
     let es = c.args.self.now.graph in
     let vs = c.args.self.now.document.stamps in
     let rows = rows_in c.args.self.now.document in
-    let ds = removed_in c.args.self.now.document in
+    let ds = row_deletions_in c.args.self.now.document in
     let u = c.args.update.now in
     let stands = c.requires.stands in
     let t = c.requires.takable in
@@ -82,7 +82,7 @@ add-requires-clause-held c =
     let es = c.args.self.now.graph in
     let vs = c.args.self.now.document.stamps in
     let rows = rows_in c.args.self.now.document in
-    let ds = removed_in c.args.self.now.document in
+    let ds = row_deletions_in c.args.self.now.document in
     let u = c.args.update.now in
     let stands = c.requires.stands in
     let t = c.requires.takable in

@@ -1,6 +1,6 @@
 use Rattle.std.proofs.Common.{◌++◌, ◌∷◌, [], length, arith, ap, refl, ◌∙◌}
 use Rattle.braid_text.specs.Puts.{total_len}
-use Rattle.braid_text.specs.Standing.{rows_in, removed_in}
+use Rattle.braid_text.specs.Standing.{rows_in, row_deletions_in}
 use Rattle.braid_text.proofs.Insertions.{insertions_resolved}
 use Rattle.braid_text.proofs.Taking.{versions_kept, elements_kept, deletions_kept, fresh_there, parents_kept, deletions_taken, elements_taken, few_taken, over_there, deletes_kept, stands_after}
 use Rattle.braid_text.proofs.history.History.take.Goals as goal
@@ -11,7 +11,7 @@ add_version-requires-clause-over c =
     let es = c.args.self.now.graph in
     let vs = c.args.self.now.document.stamps in
     let rows = rows_in c.args.self.now.document in
-    let ds = removed_in c.args.self.now.document in
+    let ds = row_deletions_in c.args.self.now.document in
     let u = c.args.update in
     let stands = c.requires.stands in
     let t = c.requires.takable in
@@ -23,7 +23,7 @@ add_version-requires-clause-there c =
     let es = c.args.self.now.graph in
     let vs = c.args.self.now.document.stamps in
     let rows = rows_in c.args.self.now.document in
-    let ds = removed_in c.args.self.now.document in
+    let ds = row_deletions_in c.args.self.now.document in
     let u = c.args.update in
     let stands = c.requires.stands in
     let t = c.requires.takable in
@@ -35,11 +35,11 @@ returns-clause-stands c =
     let es = c.args.self.now.graph in
     let vs = c.args.self.now.document.stamps in
     let rows = rows_in c.args.self.now.document in
-    let ds = removed_in c.args.self.now.document in
+    let ds = row_deletions_in c.args.self.now.document in
     let u = c.args.update in
     let stands = c.requires.stands in
     let t = c.requires.takable in
-    stands_after H es vs rows ds stands u c.args.resolved t c.push_reserved.new.self.items c.prepare.new.self.graph (c.prepare.new.self.document.stamps) (c.add_version.new.doc.stamps) (rows_in c.prepare.new.self.document) (rows_in c.add_version.new.doc) (removed_in c.prepare.new.self.document) (removed_in c.add_version.new.doc) u.id c.in_ok-name.name u.parents
+    stands_after H es vs rows ds stands u c.args.resolved t c.push_reserved.new.self.items c.prepare.new.self.graph (c.prepare.new.self.document.stamps) (c.add_version.new.doc.stamps) (rows_in c.prepare.new.self.document) (rows_in c.add_version.new.doc) (row_deletions_in c.prepare.new.self.document) (row_deletions_in c.add_version.new.doc) u.id c.in_ok-name.name u.parents
     (c.push_reserved.ensures.items ∙ ap (λ t. t ++ u ∷ []) c.prepare.ensures.updates) c.in_ok-name.ensures.added refl refl c.in_ok-name.ensures.named
     c.prepare.ensures.stamps c.prepare.ensures.rows c.prepare.ensures.removed c.add_version.ensures.stamps c.add_version.ensures.placed c.add_version.ensures.deletions c.add_version.ensures.known (omega (arith, c.requires.versions))
 
@@ -49,7 +49,7 @@ returns-clause-runs c =
     let es = c.args.self.now.graph in
     let vs = c.args.self.now.document.stamps in
     let rows = rows_in c.args.self.now.document in
-    let ds = removed_in c.args.self.now.document in
+    let ds = row_deletions_in c.args.self.now.document in
     let u = c.args.update in
     let stands = c.requires.stands in
     let t = c.requires.takable in

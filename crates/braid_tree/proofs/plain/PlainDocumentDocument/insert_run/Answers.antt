@@ -26,7 +26,7 @@ last_is c = omega (arith, c.len.ensures, length-map c.self.inside.versions.items
 begun : (c : goal.After-self-1) → 0 < length (stamps_in c.self.inside.versions.items)
 begun c = subst (λ (v : PlainView). 0 < length v.stamps) (sym c.self.view_is) c.requires.begun
 
-kept : (c : goal.After-self-1) → IsKept c.self.inside.versions.items c.put_run.new.rows.items c.self.inside.removals.items
+kept : (c : goal.After-self-1) → IsKept c.self.inside.versions.items c.put_run.new.rows.items c.self.inside.deletions.items
 kept c =
     let in' = c.self.inside in
     let last = last_is c in
@@ -34,7 +34,7 @@ kept c =
     let next = subst (λ (v : PlainView). AreNewOrdinals v.rows (length v.stamps - 1) c.args.ordinal) (sym c.self.view_is) c.requires.ordinals in
     let fit : length c.args.text.now ≤ free_in (vec_capacity in'.elements) (vec_len in'.elements) = subst (λ (v : PlainView). length c.args.text.now ≤ v.room.elements) (sym c.self.view_is) c.requires.roomy.elements_fit in
     let few : length c.put_run.new.rows.items < 2 ^ 32 = omega (arith, fit, c.put_run.ensures.len, c.self.invariant.few_rows, min-le_right (vec_capacity in'.elements - vec_len in'.elements) (4294967295 - vec_len in'.elements)) in
-    insert_kept in'.versions.items in'.elements.items c.put_run.new.rows.items in'.removals.items (c.len.result - 1) c.args.after c.args.ordinal c.args.text.now c.landing-index.result c.self.invariant there
+    insert_kept in'.versions.items in'.elements.items c.put_run.new.rows.items in'.deletions.items (c.len.result - 1) c.args.after c.args.ordinal c.args.text.now c.landing-index.result c.self.invariant there
     (subst (λ v. AreNewOrdinals (rows_in in'.elements.items) v c.args.ordinal) (sym last) next) (omega (arith, last, begun c)) (within c) (put_after c) few
 
 pub invariant_of-self : goal.invariant_of-self
