@@ -14,7 +14,7 @@ use Rattle.braid_tree.proofs.Places.{place_cases, place_of_run, known_put, own_p
 use Rattle.braid_tree.proofs.KeptRows.{known_after}
 use Rattle.braid_spans.specs.declared.run.Run.{Run}
 use Rattle.braid_spans.specs.declared.link.Link.{Link}
-use Rattle.braid_spans.specs.declared.version.Version.{Version}
+use Rattle.braid_spans.specs.declared.version.SpanVersion.{SpanVersion}
 use Rattle.braid_spans.specs.Spans.{spelled_span, spelled, rows_of, deletions_of}
 use Rattle.braid_spans.specs.Kept.{span_of, spans_of, stamps_in, stamp_of, chains_of, reach, size_in, undeleted_in, IsFitting, AreFitting, IsSmall, IsHeld, IsHeldAt, IsSound, IsPut, MarksOne, MarksEach, SpellsAlike, AreLinked}
 use Rattle.braid_spans.specs.SeenRuns.{places_in, seen_runs, seen_count, seen_places, seen_chars}
@@ -86,7 +86,7 @@ put_length old new version after n text (p, l, e) =
     let d = length-drop p old in
     omega (arith, a, b, c, d, l, run_length version after n text)
 
-module _ (vs : List Version) (chars : List ℕ) (links : List Link) (rs : List Run) (deletions : ℕ) (sound : IsSound vs chars links rs deletions) where
+module _ (vs : List SpanVersion) (chars : List ℕ) (links : List Link) (rs : List Run) (deletions : ℕ) (sound : IsSound vs chars links rs deletions) where
   -- the answers of a sound document
   pub count_answer : (marks : List Bool) (ls : List Link) (xs : List Run) (n : ℕ) → ls ≡ links → xs ≡ rs → n ≡ seen_count marks (chains_of ls) xs
       → n ≡ length (seen_rows marks (deletions_of (spelled (spans_of chars (chains_of links) rs))) (rows_of (spelled (spans_of chars (chains_of links) rs))))

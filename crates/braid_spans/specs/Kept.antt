@@ -6,15 +6,15 @@ use Rattle.braid_tree.specs.Rows.{Stamp, DocumentRoom, AreKnown, PutsRun, ListsW
 use Rattle.braid_tree.specs.Inside.{HaveOwnPlaces}
 use Rattle.braid_tree.specs.declared.at.At.{At}
 use Rattle.braid_spans.specs.Spans.{Span, Spelled, spelled, rows_of, deletions_of}
-use Rattle.braid_spans.specs.declared.version.Version.{Version}
+use Rattle.braid_spans.specs.declared.version.SpanVersion.{SpanVersion}
 use Rattle.braid_spans.specs.declared.link.Link.{Link}
 use Rattle.braid_spans.specs.declared.run.Run.{Run}
 use Rattle.braid_spans.specs.declared.left.Left.{Left}
 
-abbrev pub stamp_of : Version → Stamp
+abbrev pub stamp_of : SpanVersion → Stamp
 stamp_of v = record { id = v.id; level = v.level }
 
-abbrev pub stamps_in : List Version → List Stamp
+abbrev pub stamps_in : List SpanVersion → List Stamp
 stamps_in vs = map stamp_of vs
 
 -- the versions of the chain that a link begins; none begins no link
@@ -179,7 +179,7 @@ pub record RunsView : Type 0 where
   pub room : ℕ
 
 -- versions, characters, links and runs that fit together, with this many deletions
-pub record IsSound (vs : List Version) (chars : List ℕ) (links : List Link) (rs : List Run) (deletions : ℕ) : Type 0 where
+pub record IsSound (vs : List SpanVersion) (chars : List ℕ) (links : List Link) (rs : List Run) (deletions : ℕ) : Type 0 where
   pub known : AreKnown (stamps_in vs) (rows_of (spelled (spans_of chars (chains_of links) rs)))
   pub own_places : HaveOwnPlaces (rows_of (spelled (spans_of chars (chains_of links) rs)))
   pub fitting : AreFitting (length vs) chars (chains_of links) rs

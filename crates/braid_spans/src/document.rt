@@ -9,7 +9,7 @@ use crate::left::Left;
 use crate::link::Link;
 use crate::runs::Runs;
 use crate::skipping::pass_blocks;
-use crate::version::Version;
+use crate::version::SpanVersion;
 use crate::whole::{count_all, nth_of_all, push_chars, push_places};
 use braid_ids::{Id, Marks, Memory};
 use braid_tree::{At, Document};
@@ -30,7 +30,7 @@ use std::marker::Model;
 /// is.
 #[derive(Drop)]
 pub struct SpanDocument {
-    versions: Vec<Version>,
+    versions: Vec<SpanVersion>,
     chars: Vec<char>,
     links: Vec<Link>,
     runs: Runs,
@@ -176,7 +176,7 @@ impl Document for SpanDocument {
         ensures known { AreKnown self.old.stamps (rows_of (spelled self.old.runs)) }
         ensures runs { self.new.runs ≡ self.old.runs }
     {
-        self.versions.push_reserved(Version { id, level });
+        self.versions.push_reserved(SpanVersion { id, level });
         self.left.versions -= 1;
     }
 

@@ -8,14 +8,14 @@ ghost use Rattle.braid_spans.specs.declared.run.Run.{Run};
 use crate::editing::open_behind;
 use crate::run::Run;
 use crate::runs::Runs;
-use crate::version::{Version, has_greater_key};
+use crate::version::{SpanVersion, has_greater_key};
 use braid_tree::At;
 
 /// Passes over the runs whose first elements have greater keys than `first`: the number of the next run, or the end.
 ///
 /// The keys of a run rise from its first element on, so all of them are greater where the first is; and what comes
 /// next in reading order behind the last run that is passed is the first element of the run where it stops.
-pub fn landing(versions: &[Version], runs: &Runs, start: usize, first: At) -> usize
+pub fn landing(versions: &[SpanVersion], runs: &Runs, start: usize, first: At) -> usize
     requires start_in { start ≤ length runs.now.list }
     requires first_known { first.version < length versions.now }
     requires known { All (λ (r : Run). r.first.version < length versions.now) runs.now.list }
@@ -50,7 +50,7 @@ fn open_at(runs: &mut Runs, after: Option<At>) -> usize
 
 /// Puts a run of the version begun last in its place, and its characters behind those that came.
 pub fn put_run(
-    versions: &[Version],
+    versions: &[SpanVersion],
     chars: &mut Vec<char>,
     runs: &mut Runs,
     first: At,

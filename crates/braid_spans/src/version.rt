@@ -10,13 +10,13 @@ use std::cmp::Ordering;
 
 /// A version as it is kept.
 #[derive(Drop)]
-pub struct Version {
+pub struct SpanVersion {
     pub id: Id,
     pub level: u32,
 }
 
 /// How the keys of two elements compare: by level, then by the bytes of the identifier, then by ordinal.
-pub fn compare_keys(versions: &[Version], a: At, b: At) -> Ordering
+pub fn compare_keys(versions: &[SpanVersion], a: At, b: At) -> Ordering
     requires a_known { a.version < length versions.now }
     requires b_known { b.version < length versions.now }
     ensures order { result ≡ key_cmp (key_at (stamps_in versions.now) a) (key_at (stamps_in versions.now) b) }
@@ -30,7 +30,7 @@ pub fn compare_keys(versions: &[Version], a: At, b: At) -> Ordering
 }
 
 /// Whether the element at `at` has a greater key than the one at `first`.
-pub fn has_greater_key(versions: &[Version], at: At, first: At) -> bool
+pub fn has_greater_key(versions: &[SpanVersion], at: At, first: At) -> bool
     requires at_known { at.version < length versions.now }
     requires first_known { first.version < length versions.now }
     ensures greater { IsTrue result
