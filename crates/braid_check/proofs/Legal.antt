@@ -9,7 +9,8 @@ use Rattle.braid_grammar.proofs.OneUpdate.{spelled_is_update}
 use Rattle.braid_text.specs.declared.accept.Accept.{Accept}
 use Rattle.braid_text.specs.declared.accept.Accept.TheVariants.{New, Known, Clash, UnknownParent, OutOfRange, Full, Memory}
 use Rattle.braid_text.specs.Answers.{HasRoom, IsAnswer, needs_of, room_of}
-use Rattle.braid_text.specs.Histories.{added_by, elements_by, deletions_by, elements_of, deletions_of}
+use Rattle.braid_text.specs.Versions.{elements_by, deletions_by}
+use Rattle.braid_text.specs.Histories.{added_by, elements_of, deletions_of}
 use Rattle.braid_text.proofs.Answered.{is_answer}
 use Rattle.braid_text.proofs.Public.{legal_more, may_follow, elements_more, deletions_more, width_after, room_versions, only_answer}
 use Rattle.braid_text.proofs.Taking.{contains_holds}

@@ -5,7 +5,7 @@ use Rattle.std.proofs.lemmas.List.{reverse-append}
 use Rattle.std.proofs.lemmas.List.Sorted.{IsPermutation-reverse, IsPermutation-sym, Contains-permutation}
 use Rattle.braid_ids.proofs.Rising.{cons_first, cons_other, cons_cases}
 use Rattle.braid_change.specs.Updates.{UpdateView}
-use Rattle.braid_text.specs.Answers.{same_update}
+use Rattle.braid_text.specs.Refusals.{same_update}
 use Rattle.braid_text.proofs.Judged.{updates_Decide}
 use Rattle.braid_check.specs.Accepted.{once_in, history_of}
 

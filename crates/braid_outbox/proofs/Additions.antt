@@ -13,7 +13,8 @@ use Rattle.braid_rebase.specs.Additions.{chars_of}
 use Rattle.braid_rebase.proofs.Members.{member_contains}
 use Rattle.braid_text.specs.Versions.{seen_in, text_in, versions_in}
 use Rattle.braid_text.specs.Histories.{Follows, IsLegalLog, text_of}
-use Rattle.braid_text.specs.Answers.{room_of, first_full}
+use Rattle.braid_text.specs.Refusals.{first_full}
+use Rattle.braid_text.specs.Answers.{room_of}
 use Rattle.braid_text.specs.declared.room.Room.{Room}
 use Rattle.braid_text.proofs.Public.{frontier_log}
 use Rattle.braid_outbox.specs.Shapes.{is_change}

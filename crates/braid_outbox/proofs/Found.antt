@@ -13,7 +13,7 @@ use Rattle.braid_tree.proofs.Member.{member_append_left, member_append_cases}
 use Rattle.braid_rebase.proofs.Members.{contains_member, member_contains}
 use Rattle.braid_text.specs.Versions.{has_version, versions_in}
 use Rattle.braid_text.specs.Histories.{entry_of, graph_of}
-use Rattle.braid_text.specs.Answers.{first_missing, same_update}
+use Rattle.braid_text.specs.Refusals.{first_missing, same_update}
 use Rattle.braid_text.proofs.Held.{holds_version, version_holds}
 use Rattle.braid_text.proofs.Judged.{updates_Decide, none_missing, missing_none}
 use Rattle.braid_text.proofs.Logs.{Has, false_from, has_holds, holds_has}

@@ -13,8 +13,8 @@ use Rattle.braid_tree.specs.Trees.{Member}
 use Rattle.braid_tree.specs.Elements.{element_of}
 use Rattle.braid_tree.proofs.Member.{member_append_left, member_append_right, member_append_cases}
 use Rattle.braid_rebase.proofs.Members.{contains_member, member_contains, in_log, from_log}
-use Rattle.braid_text.specs.Versions.{Version, has_version, versions_in}
-use Rattle.braid_text.specs.Histories.{Follows, IsLegal, IsLegalLog, MayFollow, SameGraph, added_by, deletions_by, deletions_of, elements_by, elements_of, graph_of}
+use Rattle.braid_text.specs.Versions.{Version, has_version, versions_in, deletions_by, elements_by}
+use Rattle.braid_text.specs.Histories.{Follows, IsLegal, IsLegalLog, MayFollow, SameGraph, added_by, deletions_of, elements_of, graph_of}
 use Rattle.braid_text.specs.Answers.{HasRoom, needs_of, room_of}
 use Rattle.braid_text.specs.Alike.{AreAlike}
 use Rattle.braid_text.specs.declared.room.Room.{Room}

@@ -8,7 +8,7 @@ use Rattle.braid_rebase.proofs.Filtered.{member_filter, filter_member}
 use Rattle.braid_text.specs.Versions.{has_version, ancestors_in, versions_in}
 use Rattle.braid_text.specs.Histories.{Follows, IsLegalLog}
 use Rattle.braid_text.specs.Sent.{is_outside, sent}
-use Rattle.braid_text.specs.Answers.{find_in, first_there, refusal_in, needs_in, first_full, room_in}
+use Rattle.braid_text.specs.Refusals.{find_in, first_there, refusal_in, needs_in, first_full, room_in}
 use Rattle.braid_text.specs.declared.room.Room.{Room}
 use Rattle.braid_text.specs.declared.room.Which.TheVariants.{Versions}
 use Rattle.braid_text.specs.declared.accept.Accept.{Accept}

@@ -10,7 +10,8 @@ use Rattle.braid_rebase.proofs.Members.{contains_member, member_contains}
 use Rattle.braid_rebase.specs.Additions.{chars_of}
 use Rattle.braid_text.specs.Versions.{seen_in, text_in, versions_in}
 use Rattle.braid_text.specs.Histories.{graph_of, IsLegalLog}
-use Rattle.braid_text.specs.Answers.{answer_to, answer_in, find_in, first_missing, first_full, first_there, judge_held, needs_of, needs_in, refusal_to, refusal_in, room_of, same_update}
+use Rattle.braid_text.specs.Refusals.{answer_in, find_in, first_missing, first_full, first_there, judge_held, needs_in, refusal_in, same_update}
+use Rattle.braid_text.specs.Answers.{answer_to, needs_of, refusal_to, room_of}
 use Rattle.braid_text.specs.declared.room.Room.{Room}
 use Rattle.braid_text.specs.declared.accept.Accept.{Accept}
 use Rattle.braid_text.specs.declared.accept.Accept.TheVariants.{New, Known, Clash, UnknownParent, OutOfRange, Full, Memory}

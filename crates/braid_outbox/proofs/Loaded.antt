@@ -11,7 +11,8 @@ use Rattle.braid_graph.proofs.Collected.{ids_length}
 use Rattle.braid_graph.proofs.Kept.{take_next}
 use Rattle.braid_rebase.proofs.Members.{contains_member, member_contains}
 use Rattle.braid_text.specs.Histories.{entry_of, graph_of, IsLegal, MayFollow, elements_of, deletions_of}
-use Rattle.braid_text.specs.Answers.{HasRoom, answer_to, first_missing, needs_of, room_of}
+use Rattle.braid_text.specs.Refusals.{first_missing}
+use Rattle.braid_text.specs.Answers.{HasRoom, answer_to, needs_of, room_of}
 use Rattle.braid_text.specs.declared.room.Room.{Room}
 use Rattle.braid_text.specs.declared.accept.Accept.{Accept}
 use Rattle.braid_text.specs.declared.accept.Accept.TheVariants.{New}

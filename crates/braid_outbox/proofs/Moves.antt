@@ -10,7 +10,7 @@ use Rattle.braid_tree.proofs.Keys.{ids_strict, eq_true}
 use Rattle.braid_rebase.proofs.Members.{member_contains, contains_member, in_log, from_log}
 use Rattle.braid_text.specs.Versions.{text_in, versions_in}
 use Rattle.braid_text.specs.Histories.{Follows, IsLegalLog}
-use Rattle.braid_text.specs.Answers.{needs_in, first_full, room_in, refusal_in, first_there, find_in, judge_held, same_update, first_missing}
+use Rattle.braid_text.specs.Refusals.{needs_in, first_full, room_in, refusal_in, first_there, find_in, judge_held, same_update, first_missing}
 use Rattle.braid_change.specs.Splices.{first_past}
 use Rattle.braid_text.specs.declared.room.Room.{Room}
 use Rattle.braid_text.specs.declared.room.Which.TheVariants.{Versions, Elements, Deletions, Width}

@@ -12,7 +12,7 @@ use Rattle.braid_tree.proofs.Member.{member_append_left, member_append_right, me
 use Rattle.braid_text.specs.Versions.{Version, has_version, ancestors_in, version_in, versions_in}
 use Rattle.braid_text.specs.Histories.{Follows, IsLegalLog}
 use Rattle.braid_text.specs.Sent.{is_outside, sent}
-use Rattle.braid_text.specs.Answers.{find_in, refusal_in}
+use Rattle.braid_text.specs.Refusals.{find_in, refusal_in}
 use Rattle.braid_text.specs.declared.room.Room.{Room}
 use Rattle.braid_text.specs.declared.room.Which.TheVariants.{Versions}
 use Rattle.braid_text.specs.declared.accept.Accept.{Accept}

@@ -29,7 +29,8 @@ use Rattle.braid_rebase.proofs.Joins.{inserts_few}
 use Rattle.braid_rebase.proofs.Members.{contains_member, member_contains}
 use Rattle.braid_text.specs.Versions.{document_in, sees, seen_in, ancestors_in, versions_in}
 use Rattle.braid_text.specs.Histories.{text_of, text_at, seen_at, ancestors_at, document_of, elements_of, versions_at}
-use Rattle.braid_text.specs.Answers.{HasRoom, IsOver, first_full, needs_of, room_of}
+use Rattle.braid_text.specs.Refusals.{first_full}
+use Rattle.braid_text.specs.Answers.{HasRoom, IsOver, needs_of, room_of}
 use Rattle.braid_text.specs.declared.room.Room.{Room}
 use Rattle.braid_text.specs.declared.room.Which.{Which}
 use Rattle.braid_text.specs.declared.accept.Accept.{Accept}

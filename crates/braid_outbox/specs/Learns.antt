@@ -3,7 +3,8 @@ use Rattle.std.specs.Prelude.{ℕ, List, [], ◌∷◌, ◌++◌, Bool, false, i
 use Rattle.std.specs.Ordering.{is_eq}
 use Rattle.braid_ids.specs.Identifiers.{id_cmp}
 use Rattle.braid_change.specs.Updates.{UpdateView}
-use Rattle.braid_text.specs.Answers.{same_update, find_in, refusal_to, needs_of, room_of, first_full, first_there}
+use Rattle.braid_text.specs.Refusals.{same_update, find_in, first_full, first_there}
+use Rattle.braid_text.specs.Answers.{refusal_to, needs_of, room_of}
 use Rattle.braid_text.specs.declared.room.Room.{Room}
 use Rattle.braid_text.specs.declared.accept.Accept.{Accept}
 use Rattle.braid_text.specs.declared.accept.Accept.TheVariants.{New, Known, Clash, UnknownParent, OutOfRange, Full, Memory}

@@ -3,7 +3,8 @@ use Rattle.std.specs.Prelude.{ℕ, zero, suc, List, [], ◌∷◌, ◌++◌, ◌
 use Rattle.braid_change.specs.declared.change.Change.{Change}
 use Rattle.braid_change.specs.Updates.{UpdateView}
 use Rattle.braid_text.specs.Sent.{sent}
-use Rattle.braid_text.specs.Answers.{find_in, refusal_to}
+use Rattle.braid_text.specs.Refusals.{find_in}
+use Rattle.braid_text.specs.Answers.{refusal_to}
 use Rattle.braid_text.specs.declared.room.Room.{Room}
 use Rattle.braid_text.specs.declared.room.Which.TheVariants.{Versions}
 use Rattle.braid_text.specs.declared.accept.Accept.{Accept}

@@ -10,7 +10,8 @@ use Rattle.braid_change.specs.Changes.{IsShaped}
 use Rattle.braid_change.specs.Updates.{UpdateView, IsBuildFault}
 use Rattle.braid_change.specs.Splices.{spliced, first_past}
 use Rattle.braid_text.specs.Histories.{text_of}
-use Rattle.braid_text.specs.Answers.{needs_of, first_full, room_of, IsOver}
+use Rattle.braid_text.specs.Refusals.{first_full}
+use Rattle.braid_text.specs.Answers.{needs_of, room_of, IsOver}
 use Rattle.braid_text.specs.declared.room.Room.{Room}
 use Rattle.braid_text.specs.declared.room.Which.{Which}
 use Rattle.braid_text.specs.declared.room.Which.TheVariants.{Resources, Versions, Elements, Deletions, Width}

@@ -4,7 +4,7 @@ ghost use Rattle.std.specs.Prelude.{◌≡◌, ◌≢◌, ◌↔◌, IsTrue, rev
 ghost use Rattle.std.specs.Option.{option_copied};
 ghost use Rattle.braid_graph.specs.Entries.{Holds, HoldsAll};
 ghost use Rattle.braid_text.specs.Histories.{graph_of};
-ghost use Rattle.braid_text.specs.Answers.{first_missing};
+ghost use Rattle.braid_text.specs.Refusals.{first_missing};
 ghost use Rattle.braid_outbox.specs.Replicas.{IsSound, replica_limits};
 ghost use Rattle.braid_outbox.specs.Writes.{limit_of};
 ghost use Rattle.braid_outbox.specs.Learns.{Judged, is_first, learn_answer, learn, told};

@@ -3,7 +3,8 @@ use Rattle.std.proofs.Common.{◌≡◌, ◌≢◌, ℕ, ◌+◌, ◌≤◌, Lis
 use Rattle.std.proofs.lemmas.List.{length-map}
 use Rattle.braid_change.specs.Updates.{UpdateView}
 use Rattle.braid_graph.specs.Frontiers.{frontier_of}
-use Rattle.braid_text.specs.Histories.{graph_of, added_by, elements_by, deletions_by, elements_of, deletions_of, IsLegal}
+use Rattle.braid_text.specs.Versions.{elements_by, deletions_by}
+use Rattle.braid_text.specs.Histories.{graph_of, added_by, elements_of, deletions_of, IsLegal}
 use Rattle.braid_text.specs.Answers.{needs_of}
 use Rattle.braid_text.proofs.Public.{legal_more, elements_more, deletions_more, width_after}
 use Rattle.braid_store.specs.declared.entry.Entry.{Entry}

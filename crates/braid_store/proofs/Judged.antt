@@ -15,7 +15,8 @@ use Rattle.braid_text.specs.declared.room.Which.{Which}
 use Rattle.braid_text.specs.declared.room.Which.TheVariants.{Resources, Versions, Elements, Deletions, Width}
 use Rattle.braid_text.specs.declared.accept.Accept.{Accept}
 use Rattle.braid_text.specs.declared.accept.Accept.TheVariants as accepts
-use Rattle.braid_text.specs.Answers.{same_update, find_in, first_missing, needs_of, first_full, first_there, judge_held, refusal_in, refusal_to, answer_to, HasRoom, IsAnswer}
+use Rattle.braid_text.specs.Refusals.{same_update, find_in, first_missing, first_full, first_there, judge_held, refusal_in}
+use Rattle.braid_text.specs.Answers.{needs_of, refusal_to, answer_to, HasRoom, IsAnswer}
 use Rattle.braid_text.proofs.Answered.{is_answer}
 use Rattle.braid_text.proofs.Public.{only_answer}
 use Rattle.braid_store.specs.declared.entry.Entry.{Entry}

@@ -3,8 +3,8 @@ use Rattle.std.proofs.Common.{◌≡◌, ℕ, ◌+◌, ◌-◌, List, [], ◌∷
 use Rattle.braid_tree.specs.Keys.{Key, key_cmp}
 use Rattle.braid_tree.specs.Nodes.{Node}
 use Rattle.braid_change.specs.Updates.{UpdateView}
-use Rattle.braid_text.specs.Versions.{Version, document_in, has_version, versions_in, seen_in, version_in, text_in}
-use Rattle.braid_text.specs.Histories.{IsLegalLog, Deletion, IsLegal, SameGraph, deletions_by, deletions_in, deletions_of, elements_by, elements_in, elements_of, entry_of, graph_of, versions_at}
+use Rattle.braid_text.specs.Versions.{Version, document_in, has_version, versions_in, seen_in, version_in, text_in, Deletion, deletions_by, deletions_in, elements_by, elements_in}
+use Rattle.braid_text.specs.Histories.{IsLegalLog, IsLegal, SameGraph, deletions_of, elements_of, entry_of, graph_of, versions_at}
 use Rattle.braid_tree.specs.Trees.{Member}
 use Rattle.braid_tree.proofs.Member.{member_append_left, member_append_right, member_append_cases}
 use Rattle.braid_tree.proofs.Keys.{keys_strict}
@@ -13,7 +13,7 @@ use Rattle.braid_tree.proofs.Kept.{same_reading}
 use Rattle.braid_text.proofs.Whole.{IsOrdered, whole_legal}
 use Rattle.braid_text.proofs.Same.{Compatible, same_read, version_agrees, greatest_agrees, same_versions, node_in}
 use Rattle.braid_text.specs.declared.room.Room.{Room}
-use Rattle.braid_text.specs.Answers.{room_in, needs_in, answer_in, find_in, first_missing, first_full}
+use Rattle.braid_text.specs.Refusals.{room_in, needs_in, answer_in, find_in, first_missing, first_full}
 use Rattle.braid_text.proofs.Logs.{held, has_part, has, IsPartOf}
 use Rattle.std.proofs.lemmas.List.{length-map}
 use Rattle.std.specs.List.{Contains}

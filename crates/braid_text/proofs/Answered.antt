@@ -15,7 +15,8 @@ use Rattle.braid_text.specs.declared.room.Which.{Which}
 use Rattle.braid_text.specs.declared.room.Which.TheVariants.{Resources, Versions, Elements, Deletions, Width}
 use Rattle.braid_text.specs.declared.accept.Accept.{Accept}
 use Rattle.braid_text.specs.declared.accept.Accept.TheVariants.{New, Known, Clash, UnknownParent, OutOfRange, Full, Memory}
-use Rattle.braid_text.specs.Answers.{same_update, find_in, first_missing, needs_in, first_full, first_there, judge_held, answer_in, answer_to, IsOver, HasRoom, IsAnswer, refusal_in}
+use Rattle.braid_text.specs.Refusals.{same_update, find_in, first_missing, needs_in, first_full, first_there, judge_held, answer_in, refusal_in}
+use Rattle.braid_text.specs.Answers.{answer_to, IsOver, HasRoom, IsAnswer}
 use Rattle.braid_text.proofs.Held.{one_update}
 use Rattle.braid_tree.proofs.Keys.{ids_strict}
 use Rattle.braid_text.proofs.Ties.{holds_log, log_holds}

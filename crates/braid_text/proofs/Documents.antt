@@ -18,10 +18,10 @@ use Rattle.braid_rebase.proofs.Members.{contains_member, member_contains, member
 use Rattle.braid_text.proofs.Same.{and_true, filter_reading, node_in}
 use Rattle.braid_text.proofs.Ties.{ancestor_version, version_ancestor}
 use Rattle.braid_tree.proofs.Member.{all_member, member_append_cases, member_append_left, member_append_right}
-use Rattle.braid_text.specs.Versions.{Version, deletes, document_in, has_version, sees}
+use Rattle.braid_text.specs.Versions.{Version, deletes, document_in, has_version, sees, Deletion, deletions_by, deletions_in, elements_by, elements_in}
 use Rattle.braid_text.proofs.Whole.{IsWhole, ancestry_member, and_cases, not_true, one_version, whole_legal}
 use Rattle.braid_text.specs.Documents.{IsDocument, IsSeen}
-use Rattle.braid_text.specs.Histories.{Deletion, IsLegal, ancestors_at, deletions_by, deletions_in, deletions_of, document_of, elements_by, elements_in, elements_of, graph_of, seen_at, versions_at}
+use Rattle.braid_text.specs.Histories.{IsLegal, ancestors_at, deletions_of, document_of, elements_of, graph_of, seen_at, versions_at}
 use Rattle.braid_tree.specs.Trees.{AreDistinct, IsTree, Member}
 
 -- the elements of versions are those that each adds, and likewise the deletions

@@ -32,8 +32,8 @@ use Rattle.braid_rebase.specs.declared.resolving.Resolved.{Resolved}
 use Rattle.braid_rebase.proofs.Stands.{chars_listed, ranges_listed, resolved_runs, resolved_deletes}
 use Rattle.braid_rebase.proofs.Joins.{inserts_few}
 use Rattle.braid_rebase.proofs.Filtered.{member_filter}
-use Rattle.braid_text.specs.Versions.{Version, has_version}
-use Rattle.braid_text.specs.Histories.{MayFollow, graph_of, entry_of, versions_at, added_by, document_of, seen_at, text_at, deletions_by, deletions_of}
+use Rattle.braid_text.specs.Versions.{Version, has_version, deletions_by}
+use Rattle.braid_text.specs.Histories.{MayFollow, graph_of, entry_of, versions_at, added_by, document_of, seen_at, text_at, deletions_of}
 use Rattle.braid_text.specs.Answers.{needs_of}
 use Rattle.braid_text.specs.Puts.{Puts, ListsWithRuns, AreOver, AreThere, text_len, total_len, deletion_by}
 use Rattle.braid_text.specs.Standing.{Stands, stamp_in, stamps_of, id_at, named_deletion, IsKnownDeletion}

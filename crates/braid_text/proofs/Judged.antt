@@ -16,7 +16,7 @@ use Rattle.braid_tree.specs.Trees.{Member}
 use Rattle.braid_tree.proofs.Keys.{ids_strict, eq_true, eq_itself}
 use Rattle.braid_text.proofs.Whole.{and_cases}
 use Rattle.braid_text.proofs.Same.{and_true}
-use Rattle.braid_text.specs.Answers.{same_patch, same_change, same_update, find_in, first_missing, first_there, judge_held, refusal_in}
+use Rattle.braid_text.specs.Refusals.{same_patch, same_change, same_update, find_in, first_missing, first_there, judge_held, refusal_in}
 use Rattle.braid_text.specs.declared.accept.Accept.{Accept}
 use Rattle.braid_text.specs.declared.accept.Accept.TheVariants.{Known, Clash, UnknownParent, OutOfRange}
 use Rattle.braid_text.proofs.Logs.{Has, held, has, follows_held, has_holds, holds_has}

@@ -30,12 +30,12 @@ use Rattle.braid_rebase.proofs.Members.{contains_member, from_log, in_log, membe
 use Rattle.braid_rebase.specs.Additions.{chars_of, seen_after, ranges_at}
 use Rattle.braid_text.proofs.Whole.{ancestry_member, not_true}
 use Rattle.braid_text.proofs.Ties.{ancestor_version, frontier_whole, greatest_levels, held_at, holds_log, key_levels, log_holds, version_ancestor, levels, log_graph}
-use Rattle.braid_text.specs.Versions.{Version, ancestors_in, has_version, versions_in, document_in}
+use Rattle.braid_text.specs.Versions.{Version, ancestors_in, has_version, versions_in, document_in, deletions_by, deletions_in, elements_by, elements_in}
 use Rattle.braid_tree.specs.Trees.{Member}
 use Rattle.braid_text.specs.Answers.{HasRoom, IsAnswer, answer_to, needs_of, room_of}
 use Rattle.braid_text.proofs.Logs.{Has, false_from, has_holds, holds_has}
 use Rattle.braid_text.proofs.Same.{Compatible, same_read}
-use Rattle.braid_text.specs.Histories.{AreCompatible, IsLegal, IsLegalLog, MayFollow, SameGraph, added_by, ancestors_at, deletions_by, deletions_in, deletions_of, document_of, elements_by, elements_in, elements_of, graph_of, seen_at, text_at, versions_at}
+use Rattle.braid_text.specs.Histories.{AreCompatible, IsLegal, IsLegalLog, MayFollow, SameGraph, added_by, ancestors_at, deletions_of, document_of, elements_of, graph_of, seen_at, text_at, versions_at}
 use Rattle.braid_rebase.proofs.Counted.{nodes_counted, deleted_counted}
 use Rattle.braid_rebase.proofs.Spliced.{ranges_within}
 use Rattle.braid_change.specs.Changes.{IsShaped}

@@ -9,7 +9,7 @@ use Rattle.braid_change.specs.declared.change.Change.TheVariants.{Body}
 use Rattle.braid_change.specs.Changes.{AreScalars, content_len}
 use Rattle.braid_change.specs.Updates.{UpdateView, IsBuilt}
 use Rattle.braid_text.specs.Histories.{Follows, IsLegal}
-use Rattle.braid_text.specs.Answers.{refusal_in}
+use Rattle.braid_text.specs.Refusals.{refusal_in}
 use Rattle.braid_text.specs.Worked.{x_1, p_1, q_1, r_1, p_deletes, a_1, b_1, m_1, x_hello, y_1}
 use Rattle.braid_text.proofs.Judged.{follows_from}
 

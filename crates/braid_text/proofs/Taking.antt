@@ -29,7 +29,8 @@ use Rattle.braid_text.specs.declared.accept.Accept.TheVariants.{New, Known, Clas
 use Rattle.braid_text.specs.declared.room.Room.{Room}
 use Rattle.braid_text.specs.declared.room.Which.{Which}
 use Rattle.braid_text.specs.Histories.{IsLegal, MayFollow, graph_of, entry_of, text_at, document_of, elements_of, deletions_of}
-use Rattle.braid_text.specs.Answers.{needs_of, first_full, HasRoom, IsAnswer, IsOver}
+use Rattle.braid_text.specs.Refusals.{first_full}
+use Rattle.braid_text.specs.Answers.{needs_of, HasRoom, IsAnswer, IsOver}
 use Rattle.braid_text.specs.Judging.{IsHeldAnswer, NamesParent}
 use Rattle.braid_text.specs.Puts.{AreOver, AreThere, ListsWithRuns, total_len, deletion_by}
 use Rattle.braid_text.specs.Standing.{Stands, IsTakable, named_deletion}

@@ -24,8 +24,8 @@ use Rattle.braid_rebase.specs.Additions.{has_key}
 use Rattle.braid_rebase.proofs.Stands.{chars_listed}
 use Rattle.braid_rebase.proofs.KeyTests.{key_member, member_key}
 use Rattle.braid_rebase.proofs.Members.{contains_member, member_contains, member_map, member_from_map}
-use Rattle.braid_text.specs.Versions.{Version, has_version, deletes, sees, versions_in}
-use Rattle.braid_text.specs.Histories.{Deletion, graph_of, versions_at, document_of, ancestors_at, seen_at, text_at, deletions_by, deletions_of, entry_of}
+use Rattle.braid_text.specs.Versions.{Version, has_version, deletes, sees, versions_in, Deletion, deletions_by}
+use Rattle.braid_text.specs.Histories.{graph_of, versions_at, document_of, ancestors_at, seen_at, text_at, deletions_of, entry_of}
 use Rattle.braid_text.specs.Standing.{Stands, stamp_in, stamps_of, named_deletion, IsKnownDeletion}
 use Rattle.braid_text.proofs.Held.{version_member, member_version, deletes_member, member_deletes}
 use Rattle.braid_text.proofs.Whole.{IsWhole, whole_legal, one_version, ancestry_member}

@@ -4,8 +4,8 @@ use Rattle.braid_change.specs.Updates.{UpdateView}
 use Rattle.braid_graph.specs.Entries.{HoldsAll}
 use Rattle.braid_graph.specs.Frontiers.{frontier_of}
 use Rattle.braid_tree.specs.Elements.{Element}
-use Rattle.braid_text.specs.Versions.{Version}
-use Rattle.braid_text.specs.Histories.{graph_of, versions_at, document_of, seen_at, Deletion, elements_of, deletions_of}
+use Rattle.braid_text.specs.Versions.{Version, Deletion}
+use Rattle.braid_text.specs.Histories.{graph_of, versions_at, document_of, seen_at, elements_of, deletions_of}
 use Rattle.braid_text.specs.Answers.{needs_of, room_of, answer_to}
 use Rattle.braid_text.specs.declared.room.Room.{Room}
 

@@ -4,8 +4,8 @@ use Rattle.braid_change.specs.Updates.{UpdateView}
 use Rattle.braid_graph.specs.Ancestries.{IsAncestor}
 use Rattle.braid_tree.specs.Keys.{Key, key_cmp}
 use Rattle.braid_tree.specs.Nodes.{Node, IsReading}
-use Rattle.braid_text.specs.Versions.{Version}
-use Rattle.braid_text.specs.Histories.{graph_of, versions_at, document_of, Deletion, deletions_of}
+use Rattle.braid_text.specs.Versions.{Version, Deletion}
+use Rattle.braid_text.specs.Histories.{graph_of, versions_at, document_of, deletions_of}
 
 -- some version of the history inserts the node
 abbrev pub IsInserted : List UpdateView → Node Key → Type 0

@@ -1,5 +1,7 @@
 -- Histories: lists of updates, oldest first. Their graph, which of them are legal, their document, and what is read at a frontier.
-use Rattle.std.specs.Prelude.{◌≡◌, ◌↔◌, ℕ, List, [], ◌∷◌, ◌++◌, map, reverse, IsSome, Contains}
+-- A name in `_at`, `_of` or `_to` is of a history. Beneath it stands one in `_in`, of lists that stand newest first, so that one
+-- more update is put in front: `Versions` and `Refusals` have those, and a law says each in the words of `H ++ u ∷ []`.
+use Rattle.std.specs.Prelude.{◌≡◌, ◌↔◌, ℕ, List, [], ◌∷◌, map, reverse, IsSome, Contains}
 use Rattle.braid_ids.specs.Identifiers.{IsIdentifier}
 use Rattle.braid_ids.specs.Frontiers.{IsRising}
 use Rattle.braid_change.specs.Updates.{UpdateView, IsBuilt}
@@ -8,8 +10,8 @@ use Rattle.braid_graph.specs.Entries.{GraphEntry, Holds, HoldsAll}
 use Rattle.braid_graph.specs.Frontiers.{frontier_of}
 use Rattle.braid_tree.specs.Keys.{Key}
 use Rattle.braid_tree.specs.Nodes.{Node}
-use Rattle.braid_tree.specs.Elements.{Element, element_of}
-use Rattle.braid_text.specs.Versions.{Version, ancestors_in, document_in, seen_in, text_in, version_in, versions_in}
+use Rattle.braid_tree.specs.Elements.{Element}
+use Rattle.braid_text.specs.Versions.{Version, Deletion, ancestors_in, document_in, seen_in, text_in, version_in, versions_in, elements_in, deletions_in}
 
 -- an update's entry in the graph: its identifier and its parents
 abbrev pub entry_of : UpdateView → GraphEntry
@@ -76,29 +78,6 @@ text_at H F = text_in (versions_at H) F
 -- what is read at the frontier of all updates
 abbrev pub text_of : List UpdateView → List ℕ
 text_of H = text_at H (frontier_of (graph_of H))
-
--- a deletion: the key of the deleted element, and the identifier of the version that deletes it
-pub record Deletion : Type 0 where
-  pub key : Key
-  pub by : List ℕ
-
--- the elements that a version inserts, in the order of their ordinals
-abbrev pub elements_by : Version → List Element
-elements_by v = map element_of v.nodes
-
--- the deletions of a version
-abbrev pub deletions_by : Version → List Deletion
-deletions_by v = map (λ (k : Key). record { key = k; by = v.id }) v.deleted
-
--- the elements of versions, those of the oldest first
-abbrev pub elements_in : List Version → List Element
-elements_in [] = []
-elements_in (v ∷ vs) = elements_in vs ++ elements_by v
-
--- the deletions of versions, those of the oldest first
-abbrev pub deletions_in : List Version → List Deletion
-deletions_in [] = []
-deletions_in (v ∷ vs) = deletions_in vs ++ deletions_by v
 
 -- the elements of a history, in order of arrival
 abbrev pub elements_of : List UpdateView → List Element

@@ -2,6 +2,7 @@ pub mod Versions
 pub mod Histories
 pub mod RunCounts
 pub mod Documents
+pub mod Refusals
 pub mod Answers
 pub mod Alike
 pub mod Sent

@@ -12,8 +12,8 @@ use Rattle.braid_tree.specs.Rows.{Stamp, Row, AreKnown, element_at, key_at, plac
 use Rattle.braid_tree.specs.Rows.{RowDeletion}
 use Rattle.braid_spans.specs.Spans.{SpanView, spelled, rows_of}
 use Rattle.braid_spans.specs.Spans.{deletions_of as removals_of}
-use Rattle.braid_text.specs.Versions.{Version}
-use Rattle.braid_text.specs.Histories.{graph_of, versions_at, document_of, Deletion, deletions_of, IsLegal, MayFollow}
+use Rattle.braid_text.specs.Versions.{Version, Deletion}
+use Rattle.braid_text.specs.Histories.{graph_of, versions_at, document_of, deletions_of, IsLegal, MayFollow}
 
 -- the elements of a document of runs, in reading order
 abbrev pub rows_in : SpanView → List Row

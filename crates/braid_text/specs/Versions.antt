@@ -1,12 +1,13 @@
 -- What a history says of its versions: their levels, nodes, deletions and ancestry, and what is seen at a frontier.
--- Lists of updates and of versions stand newest first here.
-use Rattle.std.specs.Prelude.{ℕ, ◌+◌, max, List, [], ◌∷◌, ◌++◌, filter, Bool, false, not, ◌&&◌, ◌||◌, if◌then◌else◌}
+-- Lists of updates and of versions stand newest first here; `Histories` says the same of histories.
+use Rattle.std.specs.Prelude.{ℕ, ◌+◌, max, List, [], ◌∷◌, ◌++◌, filter, Bool, false, not, ◌&&◌, ◌||◌, if◌then◌else◌, map}
 use Rattle.std.specs.Ordering.{is_eq}
 use Rattle.braid_ids.specs.Identifiers.{id_cmp}
 use Rattle.braid_change.specs.Updates.{UpdateView}
 use Rattle.braid_graph.specs.Entries.{has_id}
 use Rattle.braid_tree.specs.Keys.{Key, key_cmp}
 use Rattle.braid_tree.specs.Nodes.{Node, with_nodes}
+use Rattle.braid_tree.specs.Elements.{Element, element_of}
 use Rattle.braid_rebase.specs.Additions.{has_key, chars_of, added_nodes, deleted_keys}
 
 -- what a history has of one version: its level, the nodes that it inserts and the keys that it deletes
@@ -65,3 +66,26 @@ version_in u vs =
 abbrev pub versions_in : List UpdateView → List Version
 versions_in [] = []
 versions_in (u ∷ us) = let vs = versions_in us in version_in u vs ∷ vs
+
+-- a deletion: the key of the deleted element, and the identifier of the version that deletes it
+pub record Deletion : Type 0 where
+  pub key : Key
+  pub by : List ℕ
+
+-- the elements that a version inserts, in the order of their ordinals
+abbrev pub elements_by : Version → List Element
+elements_by v = map element_of v.nodes
+
+-- the deletions of a version
+abbrev pub deletions_by : Version → List Deletion
+deletions_by v = map (λ (k : Key). record { key = k; by = v.id }) v.deleted
+
+-- the elements of versions, those of the oldest first
+abbrev pub elements_in : List Version → List Element
+elements_in [] = []
+elements_in (v ∷ vs) = elements_in vs ++ elements_by v
+
+-- the deletions of versions, those of the oldest first
+abbrev pub deletions_in : List Version → List Deletion
+deletions_in [] = []
+deletions_in (v ∷ vs) = deletions_in vs ++ deletions_by v

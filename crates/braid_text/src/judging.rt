@@ -4,7 +4,7 @@ ghost use Rattle.std.specs.Prelude.{◌≡◌, ◌<◌, ◌^◌};
 ghost use Rattle.braid_ids.specs.Identifiers.{IsIdentifier};
 ghost use Rattle.braid_ids.specs.Frontiers.{IsRising};
 ghost use Rattle.braid_change.specs.Updates.{IsBuilt};
-ghost use Rattle.braid_text.specs.Answers.{first_full};
+ghost use Rattle.braid_text.specs.Refusals.{first_full};
 ghost use Rattle.braid_text.specs.Puts.{total_len};
 ghost use Rattle.braid_text.specs.Judging.{IsHeldAnswer, NamesParent};
 ghost use Rattle.braid_text.specs.declared.accept.Accept.TheVariants.{Known, Full};

@@ -1,7 +1,7 @@
 use Rattle.std.proofs.Common.{List, ℕ, refl, sym, ap, subst, ◌∙◌, reverse}
 use Rattle.braid_graph.specs.Entries.{HoldsAll}
 use Rattle.braid_text.specs.Histories.{graph_of}
-use Rattle.braid_text.specs.Answers.{first_missing}
+use Rattle.braid_text.specs.Refusals.{first_missing}
 use Rattle.braid_text.specs.declared.accept.Accept.{Accept}
 use Rattle.braid_text.specs.declared.accept.Accept.TheVariants.{Known, Clash, UnknownParent}
 use Rattle.braid_outbox.specs.declared.learn.Learn.TheVariants.{Clash as IsClash}

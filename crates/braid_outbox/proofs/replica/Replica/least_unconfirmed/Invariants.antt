@@ -1,5 +1,5 @@
 use Rattle.std.proofs.Common.{◌≡◌, drop, reverse}
-use Rattle.braid_text.specs.Answers.{first_missing}
+use Rattle.braid_text.specs.Refusals.{first_missing}
 use Rattle.braid_outbox.proofs.replica.Replica.least_unconfirmed.Given as goal
 
 abbrev pub invariant-loop-i : goal.invariant-loop-i
