@@ -16,7 +16,8 @@ use Rattle.braid_text.specs.declared.room.Room.{Room}
 use Rattle.braid_text.specs.Refusals.{room_in, needs_in, answer_in, find_in, first_missing, first_full}
 use Rattle.braid_text.proofs.Logs.{held, has_part, has, IsPartOf}
 use Rattle.std.proofs.lemmas.List.{length-map}
-use Rattle.std.specs.List.{Contains}
+use Rattle.std.specs.List.{Contains, sum_by}
+use Rattle.std.proofs.lemmas.List.Sums.{sum_by-cons, sum_by-append}
 use Rattle.braid_graph.proofs.Frontiers.{same_frontiers}
 use Rattle.braid_text.proofs.Judged.{none_missing, not_found, found}
 use Rattle.braid_text.proofs.Ties.{held_at}
@@ -29,15 +30,6 @@ use Rattle.braid_text.proofs.Answered.{answered, answer_by}
 use Rattle.braid_graph.specs.Entries.{GraphEntry}
 use Rattle.braid_tree.specs.Elements.{Element, element_of}
 use Rattle.braid_text.specs.Alike.{AreAlike}
-
--- a number that each version has, added up
-abbrev total : (Version → ℕ) → List Version → ℕ
-total f [] = 0
-total f (v ∷ vs) = f v + total f vs
-
-total-append : (f : Version → ℕ) (xs ys : List Version) → total f (xs ++ ys) ≡ total f xs + total f ys
-total-append f [] ys = omega arith
-total-append f (x ∷ xs) ys = omega (arith, total-append f xs ys)
 
 split_at : {A : Type 0} (x : A) (xs : List A) → Member x xs → (a : List A) × (b : List A) × (xs ≡ a ++ x ∷ b)
 split_at x [] m = absurd m
@@ -60,14 +52,14 @@ differ_split (x ∷ a) b v d = let r = differ_split a b v d.1 in (first r, ((λ 
     first r w (inl f) e = d.0 v (member_append_right v a (v ∷ b) (inl refl)) (ap (λ (t : Version). t.id) f ∙ e)
     first r w (inr m) e = r.0 w m e
 
--- lists of the same different versions have the same total
-total_same : (f : Version → ℕ) (vs cs : List Version) → Differ vs → Differ cs → ((w : Version) → Member w vs → Member w cs) → ((w : Version) → Member w cs → Member w vs) → total f vs ≡ total f cs
-total_same f [] [] dv dc to from = refl
-total_same f [] (c ∷ cs) dv dc to from = absurd (from c (inl refl))
-total_same f (v ∷ vs) cs dv dc to from = go (split_at v cs (to v (inl refl))) (λ ks d t r. total_same f vs ks dv.1 d t r)
+-- lists of the same different versions have the same sum
+sums_same : (f : Version → ℕ) (vs cs : List Version) → Differ vs → Differ cs → ((w : Version) → Member w vs → Member w cs) → ((w : Version) → Member w cs → Member w vs) → sum_by f vs ≡ sum_by f cs
+sums_same f [] [] dv dc to from = refl
+sums_same f [] (c ∷ cs) dv dc to from = absurd (from c (inl refl))
+sums_same f (v ∷ vs) cs dv dc to from = go (split_at v cs (to v (inl refl))) (λ ks d t r. sums_same f vs ks dv.1 d t r)
   where
-    go : (a : List Version) × (b : List Version) × (cs ≡ a ++ v ∷ b) → ((ks : List Version) → Differ ks → ((w : Version) → Member w vs → Member w ks) → ((w : Version) → Member w ks → Member w vs) → total f vs ≡ total f ks) → total f (v ∷ vs) ≡ total f cs
-    go (a, b, e) ih = let t = ih (a ++ b) d.1 there back in let g = total-append f a b in let h = total-append f a (v ∷ b) in let k = ap (total f) e in omega (arith, t, g, h, k)
+    go : (a : List Version) × (b : List Version) × (cs ≡ a ++ v ∷ b) → ((ks : List Version) → Differ ks → ((w : Version) → Member w vs → Member w ks) → ((w : Version) → Member w ks → Member w vs) → sum_by f vs ≡ sum_by f ks) → sum_by f (v ∷ vs) ≡ sum_by f cs
+    go (a, b, e) ih = let t = ih (a ++ b) d.1 there back in let g = sum_by-append f a b in let h = sum_by-append f a (v ∷ b) in let k = ap (sum_by f) e in omega (arith, t, g, h, k, sum_by-cons f v vs, sum_by-cons f v b)
       where
         d : ((w : Version) → Member w (a ++ b) → w.id ≡ v.id → ⊥) × Differ (a ++ b)
         d = differ_split a b v (subst Differ e dc)
@@ -89,17 +81,17 @@ ordered_differ : (vs : List Version) → IsOrdered vs → Differ vs
 ordered_differ [] o = tt
 ordered_differ (v ∷ vs) o = ((λ w m e. let t : has_version v.id vs ≡ true = subst (λ (i : List ℕ). has_version i vs ≡ true) (sym e) (member_version w vs m) in let f = o.0 in cc), ordered_differ vs o.3)
 
-length_elements : (vs : List Version) → length (elements_in vs) ≡ total (λ (v : Version). length v.nodes) vs
+length_elements : (vs : List Version) → length (elements_in vs) ≡ sum_by (λ (v : Version). length v.nodes) vs
 length_elements [] = refl
-length_elements (v ∷ vs) = omega (arith, length-append (elements_in vs) (elements_by v), length-map v.nodes element_of, length_elements vs)
+length_elements (v ∷ vs) = omega (arith, sum_by-cons (λ (w : Version). length w.nodes) v vs, length-append (elements_in vs) (elements_by v), length-map v.nodes element_of, length_elements vs)
 
-length_deletions : (vs : List Version) → length (deletions_in vs) ≡ total (λ (v : Version). length v.deleted) vs
+length_deletions : (vs : List Version) → length (deletions_in vs) ≡ sum_by (λ (v : Version). length v.deleted) vs
 length_deletions [] = refl
-length_deletions (v ∷ vs) = omega (arith, length-append (deletions_in vs) (deletions_by v), length-map {B = Deletion} v.deleted (λ (k : Key). record { key = k; by = v.id }), length_deletions vs)
+length_deletions (v ∷ vs) = omega (arith, sum_by-cons (λ (w : Version). length w.deleted) v vs, length-append (deletions_in vs) (deletions_by v), length-map {B = Deletion} v.deleted (λ (k : Key). record { key = k; by = v.id }), length_deletions vs)
 
-length_total : (us : List UpdateView) → length us ≡ total (λ (v : Version). 1) (versions_in us)
-length_total [] = refl
-length_total (u ∷ us) = omega (arith, length_total us)
+length_sum : (us : List UpdateView) → length us ≡ sum_by (λ (v : Version). 1) (versions_in us)
+length_sum [] = refl
+length_sum (u ∷ us) = omega (arith, sum_by-cons (λ (w : Version). 1) (version_in u (versions_in us)) (versions_in us), length_sum us)
 
 versions_part : (us ks : List UpdateView) → IsLegalLog us → IsLegalLog ks → IsPartOf us ks → (w : Version) → Member w (versions_in us) → Member w (versions_in ks)
 versions_part us ks lu lk to w m = same_versions us lu ks lk (λ x y a b e. one_update ks lk x y (to x a) b e) w m (let a = update_of us w m in has ks w.id (a.0, to a.0 a.1, a.2))
@@ -162,20 +154,20 @@ module _ (us ks : List UpdateView) (lu : IsLegalLog us) (lk : IsLegalLog ks) (to
   back_compatible : Compatible ks us
   back_compatible x y a b e = one_update us lu x y (from x a) b e
 
-  totals : (f : Version → ℕ) → total f (versions_in us) ≡ total f (versions_in ks)
-  totals f = total_same f (versions_in us) (versions_in ks) (ordered_differ (versions_in us) (whole_legal us lu).ordered) (ordered_differ (versions_in ks) (whole_legal ks lk).ordered) (versions_part us ks lu lk to) (versions_part ks us lk lu from)
+  sums : (f : Version → ℕ) → sum_by f (versions_in us) ≡ sum_by f (versions_in ks)
+  sums f = sums_same f (versions_in us) (versions_in ks) (ordered_differ (versions_in us) (whole_legal us lu).ordered) (ordered_differ (versions_in ks) (whole_legal ks lk).ordered) (versions_part us ks lu lk to) (versions_part ks us lk lu from)
 
   pub same_document : document_in (versions_in us) ≡ document_in (versions_in ks)
   same_document = same_reading key_cmp keys_strict (document_in (versions_in us)) (document_in (versions_in ks)) (whole_legal us lu).tree.reading (whole_legal ks lk).tree.reading (document_part us ks lu lk to) (document_part ks us lk lu from)
 
   same_elements : length (elements_in (versions_in us)) ≡ length (elements_in (versions_in ks))
-  same_elements = length_elements (versions_in us) ∙ totals (λ (v : Version). length v.nodes) ∙ sym (length_elements (versions_in ks))
+  same_elements = length_elements (versions_in us) ∙ sums (λ (v : Version). length v.nodes) ∙ sym (length_elements (versions_in ks))
 
   same_deletions : length (deletions_in (versions_in us)) ≡ length (deletions_in (versions_in ks))
-  same_deletions = length_deletions (versions_in us) ∙ totals (λ (v : Version). length v.deleted) ∙ sym (length_deletions (versions_in ks))
+  same_deletions = length_deletions (versions_in us) ∙ sums (λ (v : Version). length v.deleted) ∙ sym (length_deletions (versions_in ks))
 
   same_lengths : length us ≡ length ks
-  same_lengths = length_total us ∙ totals (λ (v : Version). 1) ∙ sym (length_total ks)
+  same_lengths = length_sum us ∙ sums (λ (v : Version). 1) ∙ sym (length_sum ks)
 
   pub same_room : (limits : Room) → room_in limits us ≡ room_in limits ks
   same_room limits = λ i. record { versions = limits.versions - same_lengths i; elements = limits.elements - same_elements i; deletions = limits.deletions - same_deletions i; width = limits.width }

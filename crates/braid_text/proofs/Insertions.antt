@@ -14,7 +14,8 @@ use Rattle.braid_tree.specs.Rows.{Row}
 use Rattle.braid_rebase.specs.Resolved.{IsResolved, places_of, row_chars, row_ranges, place_before, runs_at}
 use Rattle.braid_rebase.specs.declared.run.Run.{Run}
 use Rattle.braid_rebase.specs.declared.resolving.Resolved.{Resolved}
-use Rattle.braid_text.specs.Histories.{added_by, deletions_by, deletions_of, Deletion}
+use Rattle.braid_text.specs.Versions.{deletions_by, Deletion}
+use Rattle.braid_text.specs.Histories.{added_by, deletions_of}
 use Rattle.braid_text.specs.Answers.{needs_of}
 use Rattle.braid_text.specs.RunCounts.{text_count, patch_count, insertions_in, insertions_of, update_count, insertions_by, most_runs}
 use Rattle.braid_text.specs.Puts.{run_count, insertions_at}

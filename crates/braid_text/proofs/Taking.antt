@@ -22,6 +22,7 @@ use Rattle.braid_tree.specs.Seen.{char_in}
 use Rattle.braid_tree.specs.Trees.{Member}
 use Rattle.braid_rebase.specs.Resolved.{IsSeenAt, IsResolved, IsRebaseFault, row_chars}
 use Rattle.braid_rebase.specs.declared.resolving.Resolved.{Resolved}
+use Rattle.braid_rebase.specs.declared.resolving.RebaseFault.{RebaseFault}
 use Rattle.braid_rebase.specs.declared.resolving.RebaseFault.TheVariants.{OutOfRange as PastEnd}
 use Rattle.braid_rebase.proofs.Members.{contains_member, member_contains, in_log}
 use Rattle.braid_text.specs.declared.accept.Accept.{Accept}
@@ -75,12 +76,18 @@ held_fits H legal n w u at same room a h = (go a h, λ e. subst (IsHeldAnswer w 
     go (OutOfRange p l) h = absurd h
     go (Full w n r) h = absurd h
 
-pub unknown_fits : (H : List UpdateView) (u : UpdateView) (v : List ℕ) → (Holds (graph_of H) u.id → ⊥) → IsLeastUnheld (graph_of H) u.parents v → (room : Room) (a : Accept) → NamesParent v a → IsAnswer room H u a × (a ≡ New → ⊥)
-unknown_fits H u v new least room a h = (go a h, λ e. subst (NamesParent v) e h)
+pub unknown_fits : (H : List UpdateView) (es : List GraphEntry) → es ≡ graph_of H → (u : UpdateView) (i v : List ℕ) (ps : List (List ℕ)) → i ≡ u.id → ps ≡ u.parents → (Holds es i → ⊥) → IsLeastUnheld es ps v → (room : Room) (a : Accept) → NamesParent v a → IsAnswer room H u a × (a ≡ New → ⊥)
+unknown_fits H es same u i v ps named_so parents_so new least room a h = (go a h, λ e. subst (NamesParent v) e h)
   where
+    new_there : Holds (graph_of H) u.id → ⊥
+    new_there = subst (λ (t : List GraphEntry). Holds t u.id → ⊥) same (subst (λ (w : List ℕ). Holds es w → ⊥) named_so new)
+
+    least_there : IsLeastUnheld (graph_of H) u.parents v
+    least_there = subst (λ (t : List GraphEntry). IsLeastUnheld t u.parents v) same (subst (λ (t : List (List ℕ)). IsLeastUnheld es t v) parents_so least)
+
     go : (a : Accept) → NamesParent v a → IsAnswer room H u a
-    go (UnknownParent w) e = (new, subst (IsLeastUnheld (graph_of H) u.parents) (sym e) least)
-    go Memory h = λ c. new (contains_holds H u c)
+    go (UnknownParent w) e = (new_there, subst (IsLeastUnheld (graph_of H) u.parents) (sym e) least_there)
+    go Memory h = λ c. new_there (contains_holds H u c)
     go New h = absurd h
     go Known h = absurd h
     go (Clash w) h = absurd h
@@ -93,25 +100,40 @@ past_not_new p l e = cc
 full_not_new : (w : Which) (n r : ℕ) → Full w n r ≡ New → ⊥
 full_not_new w n r e = cc
 
-module _ (H : List UpdateView) (es : List GraphEntry) (vs : List Stamp) (rows : List Row) (ds : List RowDeletion) (stands : Stands H es vs rows ds) (u : UpdateView) (new : Holds es u.id → ⊥) (held : HoldsAll es u.parents) where
-  pub new_there : Holds (graph_of H) u.id → ⊥
-  new_there = subst (λ (t : List GraphEntry). Holds t u.id → ⊥) stands.graph new
+-- the first count of which more is needed than there is room
+pub over_fits : (H : List UpdateView) (u : UpdateView) → MayFollow H u → (need room : Room) (a : Accept) → need ≡ needs_of H u → Some a ≡ first_full need room → IsAnswer room H u a × (a ≡ New → ⊥)
+over_fits H u may need room a same is = go (subst (IsOverAnswer (needs_of H u) room) (ap (λ (n : Room). first_full n room) (sym same) ∙ sym is) (over_is (needs_of H u) room))
+  where
+    go : (which : Which) × (n : ℕ) × (left : ℕ) × (a ≡ Full which n left) × IsOver (needs_of H u) room which n left → IsAnswer room H u a × (a ≡ New → ⊥)
+    go (which, n, left, e, o) = (subst (IsAnswer room H u) (sym e) (may, o), λ f. full_not_new which n left (sym e ∙ f))
 
-  pub held_there : HoldsAll (graph_of H) u.parents
-  held_there = subst (λ (t : List GraphEntry). HoldsAll t u.parents) stands.graph held
+pub roomy : (H : List UpdateView) (u : UpdateView) (need room : Room) → need ≡ needs_of H u → None ≡ first_full need room → HasRoom (needs_of H u) room
+roomy H u need room same is = subst (IsOverAnswer (needs_of H u) room) (ap (λ (n : Room). first_full n room) (sym same) ∙ sym is) (over_is (needs_of H u) room)
 
-  pub past_fits : (patch len : ℕ) → IsRebaseFault es ds rows u (PastEnd patch len) → (room : Room) → IsAnswer room H u (OutOfRange patch len) × (OutOfRange patch len ≡ New → ⊥)
-  past_fits patch len (S, seen, past, l) room =
-      let s : IsSeenAt (graph_of H) u.parents ds rows S = subst (λ (t : List GraphEntry). IsSeenAt t u.parents ds rows S) stands.graph seen in
-      let r : row_chars S ≡ text_at H u.parents = rows_read H es vs rows ds stands u held_there S s in
-      ((new_there, held_there, ap (λ (t : List ℕ). first_past t u.change) (sym r) ∙ past, l ∙ sym (length-map S char_in) ∙ ap length r), past_not_new patch len)
+-- an update that was judged: of identifier and parents as they were read, the one is not held and the others are
+module _ (H : List UpdateView) (es : List GraphEntry) (vs : List Stamp) (rows : List Row) (ds : List RowDeletion) (stands : Stands H es vs rows ds) (u : UpdateView)
+    (i : List ℕ) (ps : List (List ℕ)) (named_so : i ≡ u.id) (parents_so : ps ≡ u.parents) (new : Holds es i → ⊥) (held : HoldsAll es ps) where
+  new_there : Holds (graph_of H) u.id → ⊥
+  new_there = subst (λ (t : List GraphEntry). Holds t u.id → ⊥) stands.graph (subst (λ (v : List ℕ). Holds es v → ⊥) named_so new)
+
+  held_there : HoldsAll (graph_of H) u.parents
+  held_there = subst (λ (t : List GraphEntry). HoldsAll t u.parents) stands.graph (subst (HoldsAll es) parents_so held)
+
+  pub past_fits : (fault : RebaseFault) (patch len : ℕ) → fault ≡ PastEnd patch len → IsRebaseFault es ds rows u fault → (room : Room) → IsAnswer room H u (OutOfRange patch len) × (OutOfRange patch len ≡ New → ⊥)
+  past_fits fault patch len is h room = go (subst (IsRebaseFault es ds rows u) is h)
+    where
+      go : IsRebaseFault es ds rows u (PastEnd patch len) → IsAnswer room H u (OutOfRange patch len) × (OutOfRange patch len ≡ New → ⊥)
+      go (S, seen, past, l) =
+          let s : IsSeenAt (graph_of H) u.parents ds rows S = subst (λ (t : List GraphEntry). IsSeenAt t u.parents ds rows S) stands.graph seen in
+          let r : row_chars S ≡ text_at H u.parents = rows_read H es vs rows ds stands u held_there S s in
+          ((new_there, held_there, ap (λ (t : List ℕ). first_past t u.change) (sym r) ∙ past, l ∙ sym (length-map S char_in) ∙ ap length r), past_not_new patch len)
 
   module _ (named : IsIdentifier u.id) (rising : IsRising u.parents) (built : IsBuilt u.parents u.change) (resolved : Resolved)
       (ok : (S : List Row) × IsSeenAt es u.parents ds rows S × IsResolved S u.change resolved) where
-    pub seen_there : IsSeenAt (graph_of H) u.parents ds rows ok.0
+    seen_there : IsSeenAt (graph_of H) u.parents ds rows ok.0
     seen_there = subst (λ (t : List GraphEntry). IsSeenAt t u.parents ds rows ok.0) stands.graph ok.1
 
-    pub may : MayFollow H u
+    may : MayFollow H u
     may = (may_follow H u).1 (new_there, named, held_there, rising, built, fits)
       where
         fits : IsSome (spliced (text_at H u.parents) u.change)
@@ -120,24 +142,6 @@ module _ (H : List UpdateView) (es : List GraphEntry) (vs : List Stamp) (rows : 
             go : (o : Option (List Patch)) → IsSome o → IsSome (option_map (cut 0 (row_chars ok.0)) o)
             go None h = cc
             go (Some rs) h = refl
-
-    -- what was counted is what is needed
-    pub need_is : (need : Room) → need.versions ≡ 1 → need.elements ≡ total_len resolved.runs.items → need.deletions ≡ length resolved.deletes.items
-        → need.width ≡ length (frontier_of (es ++ entry_of u ∷ [])) → need ≡ needs_of H u
-    need_is need a b c d =
-        let e : need.elements ≡ (needs_of H u).elements = b ∙ elements_needed H es vs rows ds stands u held_there ok.0 seen_there may resolved ok.2 in
-        let f : need.deletions ≡ (needs_of H u).deletions = c ∙ deletions_needed H es vs rows ds stands u held_there ok.0 seen_there may resolved ok.2 in
-        let w : need.width ≡ (needs_of H u).width = d ∙ ap (λ (t : List GraphEntry). length (frontier_of (t ++ entry_of u ∷ []))) stands.graph ∙ ap (λ (t : List GraphEntry). length (frontier_of t)) (sym (map-append entry_of H (u ∷ []))) ∙ sym (width_after H u) in
-        (λ i. record { versions = a i; elements = e i; deletions = f i; width = w i })
-
-    pub over_fits : (need room : Room) (a : Accept) → need ≡ needs_of H u → Some a ≡ first_full need room → IsAnswer room H u a × (a ≡ New → ⊥)
-    over_fits need room a same is = go (subst (IsOverAnswer (needs_of H u) room) (ap (λ (n : Room). first_full n room) (sym same) ∙ sym is) (over_is (needs_of H u) room))
-      where
-        go : (which : Which) × (n : ℕ) × (left : ℕ) × (a ≡ Full which n left) × IsOver (needs_of H u) room which n left → IsAnswer room H u a × (a ≡ New → ⊥)
-        go (which, n, left, e, o) = (subst (IsAnswer room H u) (sym e) (may, o), λ f. full_not_new which n left (sym e ∙ f))
-
-    pub roomy : (need room : Room) → need ≡ needs_of H u → None ≡ first_full need room → HasRoom (needs_of H u) room
-    roomy need room same is = subst (IsOverAnswer (needs_of H u) room) (ap (λ (n : Room). first_full n room) (sym same) ∙ sym is) (over_is (needs_of H u) room)
 
     pub takable : resolved.level ≡ 1 + greatest_by (level_of es) u.parents → IsTakable H ds rows u resolved
     takable level = record {
@@ -157,8 +161,9 @@ held_item H es u item n i same found is read = go (held_number H i n (ap (λ (t 
         let f : w ≡ item = same_Some w item (sym at ∙ here) in
         (here, sym (ap (λ (t : UpdateView). t.id) f) ∙ e ∙ is)
 
-pub not_contained : (H : List UpdateView) (es : List GraphEntry) (u : UpdateView) → es ≡ graph_of H → (Holds es u.id → ⊥) → Contains H u → ⊥
-not_contained H es u same new c = new (subst (λ (t : List GraphEntry). Holds t u.id) (sym same) (contains_holds H u c))
+-- an update is not of the history where its identifier is not held
+pub not_contained : (H : List UpdateView) (es : List GraphEntry) → es ≡ graph_of H → (u : UpdateView) (i : List ℕ) → i ≡ u.id → (Holds es i → ⊥) → Contains H u → ⊥
+not_contained H es same u i named_so new c = new (subst (Holds es) (sym named_so) (subst (λ (t : List GraphEntry). Holds t u.id) (sym same) (contains_holds H u c)))
 
 -- how many versions, elements and deletions are kept
 pub versions_kept : (H : List UpdateView) (es : List GraphEntry) (vs : List Stamp) (rows : List Row) (ds : List RowDeletion) → Stands H es vs rows ds → length vs ≡ length H
@@ -186,6 +191,15 @@ module _ (H : List UpdateView) (es : List GraphEntry) (vs : List Stamp) (rows : 
 
   pub deletions_taken : length resolved.deletes.items ≡ (needs_of H u).deletions
   deletions_taken = deletions_needed H es vs rows ds stands u parents_there t.seen.0 t.seen.1 t.follows resolved t.seen.2
+
+  -- what was counted is what is needed
+  pub need_is : (need : Room) (ps : List (List ℕ)) → ps ≡ u.parents → need.versions ≡ 1 → need.elements ≡ total_len resolved.runs.items → need.deletions ≡ length resolved.deletes.items
+      → need.width ≡ length (frontier_of (es ++ record { id = u.id; parents = ps } ∷ [])) → need ≡ needs_of H u
+  need_is need ps so a b c d =
+      let e : need.elements ≡ (needs_of H u).elements = b ∙ elements_taken in
+      let f : need.deletions ≡ (needs_of H u).deletions = c ∙ deletions_taken in
+      let w : need.width ≡ (needs_of H u).width = d ∙ ap (λ (t : List (List ℕ)). length (frontier_of (es ++ record { id = u.id; parents = t } ∷ []))) so ∙ ap (λ (t : List GraphEntry). length (frontier_of (t ++ entry_of u ∷ []))) stands.graph ∙ ap (λ (t : List GraphEntry). length (frontier_of t)) (sym (map-append entry_of H (u ∷ []))) ∙ sym (width_after H u) in
+      (λ i. record { versions = a i; elements = e i; deletions = f i; width = w i })
 
   pub few_taken : total_len resolved.runs.items ≤ 1048576
   few_taken = few_elements H es vs rows ds stands u parents_there t.seen.0 t.seen.1 t.follows resolved t.seen.2

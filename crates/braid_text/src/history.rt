@@ -13,7 +13,7 @@ ghost use Rattle.braid_text.specs.declared.accept.Accept.TheVariants.{New, Known
 
 use crate::accept::Accept;
 use crate::adding::add_version;
-use crate::judging::{answer_held, first_full, read_parts, text_len, unknown_parent};
+use crate::judging::{answer_held, first_full, read_parts, total_len, unknown_parent};
 use crate::room::Room;
 use braid_change::{Text, Update};
 use braid_graph::Graph;
@@ -59,15 +59,26 @@ impl History {
         };
         // It does nothing when it runs: it gives the proof what every update keeps.
         read_parts(update);
-        let need = Room {
-            versions: 1,
-            elements: text_len(&resolved.runs) as u64,
-            deletions: resolved.deletes.len() as u64,
-            width: self.graph.width_after(update.parents()) as u64,
-        };
+        let need = self.need_of(update, &resolved);
         match first_full(&need, room) {
             Some(full) => Err(full),
             None => Ok(resolved),
+        }
+    }
+
+    /// What an update needs, as it was resolved.
+    fn need_of(&self, update: &Update, resolved: &Resolved) -> Room
+        requires stands { Stands self.now.updates.items self.now.graph self.now.document.stamps
+            (rows_in self.now.document) (row_deletions_in self.now.document) }
+        requires takable { IsTakable self.now.updates.items (row_deletions_in self.now.document)
+            (rows_in self.now.document) update.now resolved.now }
+        ensures need { result ≡ needs_of self.now.updates.items update.now }
+    {
+        Room {
+            versions: 1,
+            elements: total_len(&resolved.runs) as u64,
+            deletions: resolved.deletes.len() as u64,
+            width: self.graph.width_after(update.parents()) as u64,
         }
     }
 
@@ -129,8 +140,7 @@ impl History {
         let name = update.id().copy(alloc)?;
         let id = update.id().copy(alloc)?;
         let parents = update.parents().copy(alloc)?;
-        self.document
-            .reserve(1, text_len(&resolved.runs), resolved.deletes.len() as u32)?;
+        self.document.reserve(1, total_len(&resolved.runs), resolved.deletes.len() as u32)?;
         self.updates.reserve(1)?;
         self.graph.add(id, parents)?;
         Ok(name)

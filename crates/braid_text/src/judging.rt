@@ -76,7 +76,7 @@ pub fn read_parts(update: &Update)
 }
 
 /// How many characters runs insert.
-pub fn text_len(runs: &[Run]) -> u32
+pub fn total_len(runs: &[Run]) -> u32
     requires few { total_len runs.now < 2 ^ 32 }
     ensures len { result ≡ total_len runs.now }
 {

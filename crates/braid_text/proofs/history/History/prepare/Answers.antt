@@ -4,8 +4,8 @@ use Rattle.braid_text.specs.Standing.{rows_in, row_deletions_in}
 use Rattle.braid_text.proofs.Taking.{versions_kept, elements_kept, deletions_kept, fresh_there, parents_kept, deletions_taken, elements_taken, few_taken, over_there, deletes_kept, stands_after}
 use Rattle.braid_text.proofs.history.History.prepare.Goals as goal
 
-pub text_len-requires : goal.text_len-requires
-text_len-requires c =
+pub total_len-requires : goal.total_len-requires
+total_len-requires c =
     let H = c.args.self.now.updates.items in
     let es = c.args.self.now.graph in
     let vs = c.args.self.now.document.stamps in
@@ -50,7 +50,7 @@ reserve-requires-clause-few_elements c =
     let u = c.args.update.now in
     let stands = c.requires.stands in
     let t = c.requires.takable in
-    omega (arith, elements_kept H es vs rows ds stands, c.text_len.ensures.len, elements_taken H es vs rows ds stands u c.args.resolved.now t, ap total_len c.deref.ensures.value, c.requires.elements)
+    omega (arith, elements_kept H es vs rows ds stands, c.total_len.ensures.len, elements_taken H es vs rows ds stands u c.args.resolved.now t, ap total_len c.deref.ensures.value, c.requires.elements)
 
 pub reserve-requires-clause-few_deletions : goal.reserve-requires-clause-few_deletions
 reserve-requires-clause-few_deletions c =

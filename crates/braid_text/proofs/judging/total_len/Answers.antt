@@ -1,7 +1,7 @@
 use Rattle.std.proofs.Common.{◌≡◌, take, length, arith, ap}
 use Rattle.braid_text.specs.Puts.{total_len}
 use Rattle.braid_text.proofs.Putting.{total_more, total_left}
-use Rattle.braid_text.proofs.judging.text_len.Goals as goal
+use Rattle.braid_text.proofs.judging.total_len.Goals as goal
 
 pub loop-run-preserved : goal.loop-run-preserved
 loop-run-preserved c =
