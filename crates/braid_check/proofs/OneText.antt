@@ -10,7 +10,7 @@ use Rattle.braid_grammar.proofs.Readers.{next_stable}
 use Rattle.braid_grammar.proofs.Completed.{runs_out, stream_completes}
 use Rattle.braid_grammar.proofs.Law.{Runs, IsEnd, runs_same, fault_runs, one_stream, one_fault, no_stream}
 use Rattle.braid_frame.specs.declared.fed.FrameFault.{FrameFault}
-use Rattle.braid_frame.specs.Goings.{HasFault}
+use Rattle.braid_frame.specs.Phases.{HasFault}
 use Rattle.braid_stream.proofs.AtHand.{begins_runs}
 use Rattle.braid_stream.proofs.Budgets.{begins_on}
 use Rattle.braid_check.specs.Accepted.{AreAccepted, IsRefused, history_of, replica_answer}

@@ -8,7 +8,7 @@ use Rattle.braid_change.specs.Updates.{UpdateView}
 use Rattle.braid_fields.specs.Reasons.{reason_name}
 use Rattle.braid_grammar.specs.Streams.{IsStream, IsTorn, HaveUpdates, BeginsWith}
 use Rattle.braid_frame.specs.declared.fed.FrameFault.{FrameFault}
-use Rattle.braid_frame.specs.Goings.{HasFault}
+use Rattle.braid_frame.specs.Phases.{HasFault}
 use Rattle.braid_graph.specs.Frontiers.{frontier_of}
 use Rattle.braid_text.specs.Histories.{graph_of, text_of}
 use Rattle.braid_text.specs.Digested.{digest_at}

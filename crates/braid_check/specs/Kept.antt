@@ -3,7 +3,7 @@ use Rattle.std.specs.Prelude.{◌≡◌, ℕ, ◌<◌, ◌≤◌, List, length}
 use Rattle.braid_io.specs.Outside.{Intake, Moves}
 use Rattle.braid_change.specs.Updates.{UpdateView}
 use Rattle.braid_grammar.specs.Streams.{IsStream, IsTorn, HaveUpdates, BeginsWith}
-use Rattle.braid_frame.specs.Goings.{HasFault}
+use Rattle.braid_frame.specs.Phases.{HasFault}
 use Rattle.braid_stream.specs.Pieces.{FailsBehind, EndsBehind}
 use Rattle.braid_stream.specs.Readers.{most_bytes}
 use Rattle.braid_graph.specs.Frontiers.{frontier_of}

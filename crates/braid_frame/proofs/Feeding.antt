@@ -7,9 +7,9 @@ use Rattle.braid_frame.specs.declared.fed.Fed.{Fed}
 use Rattle.braid_frame.specs.declared.fed.FrameFault.{FrameFault}
 use Rattle.braid_frame.specs.declared.fed.FeedFault.{FeedFault}
 use Rattle.braid_frame.specs.declared.fed.FeedFault.TheVariants.{Frame, Memory}
-use Rattle.braid_frame.specs.declared.state.Doing.TheVariants.{Faulted}
+use Rattle.braid_frame.specs.declared.state.Phase.TheVariants.{Faulted}
 use Rattle.braid_frame.specs.declared.state.State.{State}
-use Rattle.braid_frame.specs.Goings.{StandsAs, HasFault, IsFraming}
+use Rattle.braid_frame.specs.Phases.{StandsAs, HasFault, IsFraming}
 use Rattle.braid_frame.specs.Framing.{StandsFor, IsOpen, updates_of, IfEnds, Takes, Fails, Feeds}
 use Rattle.braid_frame.specs.Steps.{StepsOn, Steps}
 use Rattle.braid_frame.proofs.Stood.{fault_more}
@@ -32,7 +32,7 @@ more_taken b piece rest taken n e = append_assoc b (take taken piece) (take n re
 -- the bytes fed and the rest of a piece are the bytes and the piece
 pub feed_room : (us : List UpdateView) (s : State) (b piece rest : List ℕ) (taken : ℕ) → IsOpen s → StandsFor us s (b ++ take taken piece) → taken ≤ length piece → rest ≡ drop taken piece → length b + length piece < 2 ^ 64 → s.at + length s.kept.items + length rest < 2 ^ 64
 feed_room us s b piece rest taken o h w e room =
-    let k = as_stands s.doing us s.at s.kept.items (b ++ take taken piece) o h.stands in
+    let k = as_stands s.phase us s.at s.kept.items (b ++ take taken piece) o h.stands in
     omega (arith, k.place, ap length (rest_taken b piece rest taken e), length-append (b ++ take taken piece) rest, length-append b piece)
 
 some_update : (o : Option UpdateView) → is_some o ≡ true → o ≡ None → ⊥
@@ -50,7 +50,7 @@ taken_within piece rest taken n e w h = omega (arith, ap length e, length-drop t
 pub takes_update : (us : List UpdateView) (b piece rest : List ℕ) (taken : ℕ) (fed : Fed) (new : State) → rest ≡ drop taken piece → is_some fed.update ≡ true → taken ≤ length piece → IsFraming new → StepsOn us (b ++ take taken piece) rest fed new → Takes us b piece (record { taken = taken + fed.taken; update = fed.update }) new
 takes_update us b piece rest taken fed new e u w f h =
     let same = more_taken b piece rest taken fed.taken e in
-    let stands : StandsFor (us ++ updates_of fed.update) new (b ++ take (taken + fed.taken) piece) = record { framing = f; stands = subst (StandsAs new.doing (us ++ updates_of fed.update) new.at new.kept.items) same h.stands } in
+    let stands : StandsFor (us ++ updates_of fed.update) new (b ++ take (taken + fed.taken) piece) = record { framing = f; stands = subst (StandsAs new.phase (us ++ updates_of fed.update) new.at new.kept.items) same h.stands } in
     record {
       within = taken_within piece rest taken fed.taken e w h.within;
       some = λ _. omega (arith, h.some);
@@ -65,8 +65,8 @@ takes_update us b piece rest taken fed new e u w f h =
 pub steps_more : (us : List UpdateView) (b piece rest : List ℕ) (taken : ℕ) (fed : Fed) (new : State) → rest ≡ drop taken piece → is_some fed.update ≡ false → IsFraming new → StepsOn us (b ++ take taken piece) rest fed new → StandsFor us new (b ++ take (taken + fed.taken) piece)
 steps_more us b piece rest taken fed new e u f h = record {
   framing = f;
-  stands = subst (λ vs. StandsAs new.doing vs new.at new.kept.items (b ++ take (taken + fed.taken) piece)) (ap (λ vs. us ++ vs) (no_update fed.update u) ∙ append-nil us)
-      (subst (StandsAs new.doing (us ++ updates_of fed.update) new.at new.kept.items) (more_taken b piece rest taken fed.taken e) h.stands);
+  stands = subst (λ vs. StandsAs new.phase vs new.at new.kept.items (b ++ take (taken + fed.taken) piece)) (ap (λ vs. us ++ vs) (no_update fed.update u) ∙ append-nil us)
+      (subst (StandsAs new.phase (us ++ updates_of fed.update) new.at new.kept.items) (more_taken b piece rest taken fed.taken e) h.stands);
 }
 
 -- all of the piece was taken
@@ -89,7 +89,7 @@ fails_step us b piece rest taken (Frame f) new e k h =
 fails_step us b piece rest taken Memory new e k h = h
 
 -- a framer that has failed fails again
-pub fails_again : (us : List UpdateView) (b piece : List ℕ) (s : State) (f : FrameFault) → s.doing ≡ Faulted f → StandsFor us s b → Fails us b piece f s
+pub fails_again : (us : List UpdateView) (b piece : List ℕ) (s : State) (f : FrameFault) → s.phase ≡ Faulted f → StandsFor us s b → Fails us b piece f s
 fails_again us b piece s f e h =
     let new = fault_more us b piece f (failed_fault us s b f h e) in
     record { fault = new.0; failed = e; stands = record { framing = h.framing; stands = rw e new } }

@@ -14,16 +14,16 @@ use Rattle.braid_grammar.proofs.Law.{runs_same, front_runs, fault_runs, one_faul
 use Rattle.braid_frame.specs.declared.fed.FrameFault.{FrameFault}
 use Rattle.braid_frame.specs.declared.state.Awaits.{Awaits}
 use Rattle.braid_frame.specs.declared.state.Awaits.TheVariants.{UpdateHead, PatchHead, FirstField, MoreFields}
-use Rattle.braid_frame.specs.declared.state.Doing.{Doing}
-use Rattle.braid_frame.specs.declared.state.Doing.TheVariants.{Lines, Body, PatchLines, PatchContent, Faulted, NoMemory}
+use Rattle.braid_frame.specs.declared.state.Phase.{Phase}
+use Rattle.braid_frame.specs.declared.state.Phase.TheVariants.{Lines, Body, PatchLines, PatchContent, Faulted, NoMemory}
 use Rattle.braid_frame.specs.declared.state.State.{State}
 use Rattle.braid_frame.specs.HeadLines.{BeginsSo}
-use Rattle.braid_frame.specs.Goings.{resume, Stands, StandsAs, HasFault, IsInHand, GoesOnReading}
+use Rattle.braid_frame.specs.Phases.{resume, LeadsTo, StandsAs, HasFault, IsInHand, IsReading}
 use Rattle.braid_frame.specs.Framing.{StandsFor, IsOpen, HasFailed}
 use Rattle.braid_frame.proofs.LinesKept.{begins_no_gap}
 use Rattle.braid_frame.proofs.Resumed.{still_part}
 
-pub as_stands : (d : Doing) (us : List UpdateView) (at : ℕ) (kept b : List ℕ) → GoesOnReading d → StandsAs d us at kept b → Stands us d at kept b
+pub as_stands : (d : Phase) (us : List UpdateView) (at : ℕ) (kept b : List ℕ) → IsReading d → StandsAs d us at kept b → LeadsTo us d at kept b
 as_stands Lines us at kept b o s = s
 as_stands (Body begun len) us at kept b o s = s
 as_stands (PatchLines p) us at kept b o s = s
@@ -31,7 +31,7 @@ as_stands (PatchContent p plan) us at kept b o s = s
 as_stands (Faulted f) us at kept b o s = absurd o
 as_stands NoMemory us at kept b o s = absurd o
 
-pub stands_as : (d : Doing) (us : List UpdateView) (at : ℕ) (kept b : List ℕ) → GoesOnReading d → Stands us d at kept b → StandsAs d us at kept b
+pub stands_as : (d : Phase) (us : List UpdateView) (at : ℕ) (kept b : List ℕ) → IsReading d → LeadsTo us d at kept b → StandsAs d us at kept b
 stands_as Lines us at kept b o s = s
 stands_as (Body begun len) us at kept b o s = s
 stands_as (PatchLines p) us at kept b o s = s
@@ -40,14 +40,14 @@ stands_as (Faulted f) us at kept b o s = absurd o
 stands_as NoMemory us at kept b o s = absurd o
 
 -- what is left over is not whole
-left_part : (d : Doing) (us : List UpdateView) (at : ℕ) (kept b : List ℕ) (line : ℕ) (awaits : Awaits) → GoesOnReading d → IsInHand d kept line awaits → (s : Stands us d at kept b) → next_at (length s.front) s.rest ≡ Part
+left_part : (d : Phase) (us : List UpdateView) (at : ℕ) (kept b : List ℕ) (line : ℕ) (awaits : Awaits) → IsReading d → IsInHand d kept line awaits → (s : LeadsTo us d at kept b) → next_at (length s.front) s.rest ≡ Part
 left_part d us at kept b line awaits o k s = ap (next_at (length s.front)) (sym (append-nil s.rest)) ∙ s.goes_on [] ∙ ap (resume d at) (append-nil kept) ∙ still_part d at kept line awaits o k
 
 -- the bytes complete exactly these updates
 pub completes : (us : List UpdateView) (framer : State) (b : List ℕ) → StandsFor us framer b → Completes us b
-completes us framer b h = go framer.doing h.framing h.stands
+completes us framer b h = go framer.phase h.framing h.stands
   where
-    open_completes : (d : Doing) → GoesOnReading d → IsInHand d framer.kept.items framer.line framer.awaits → Stands us d framer.at framer.kept.items b → Completes us b
+    open_completes : (d : Phase) → IsReading d → IsInHand d framer.kept.items framer.line framer.awaits → LeadsTo us d framer.at framer.kept.items b → Completes us b
     open_completes d o k s =
         let p = left_part d us framer.at framer.kept.items b framer.line framer.awaits o k s in
         record {
@@ -58,7 +58,7 @@ completes us framer b h = go framer.doing h.framing h.stands
           spelled = s.spelled;
         }
 
-    go : (d : Doing) → IsInHand d framer.kept.items framer.line framer.awaits → StandsAs d us framer.at framer.kept.items b → Completes us b
+    go : (d : Phase) → IsInHand d framer.kept.items framer.line framer.awaits → StandsAs d us framer.at framer.kept.items b → Completes us b
     go Lines k s = open_completes Lines tt k s
     go (Body begun len) k s = open_completes (Body begun len) tt k s
     go (PatchLines p) k s = open_completes (PatchLines p) tt k s
@@ -75,19 +75,19 @@ completes us framer b h = go framer.doing h.framing h.stands
 -- the bytes have no fault
 pub faultless : (us : List UpdateView) (framer : State) (b : List ℕ) → StandsFor us framer b → IsOpen framer → IsFaultless b
 faultless us framer b h o at r z =
-    let s = as_stands framer.doing us framer.at framer.kept.items b o h.stands in
-    let p = left_part framer.doing us framer.at framer.kept.items b framer.line framer.awaits o h.framing s in
+    let s = as_stands framer.phase us framer.at framer.kept.items b o h.stands in
+    let p = left_part framer.phase us framer.at framer.kept.items b framer.line framer.awaits o h.framing s in
     let e = (runs_same 0 b us z.updates Part (Bad at r) tt tt (front_runs us b s.front s.rest Part s.stream p s.spelled) (fault_runs b at r z)).1 in
     cc
 
 -- a fault of the bytes was answered
-pub fault_answered : (us : List UpdateView) (framer : State) (b : List ℕ) (at : ℕ) (r : Reason) → StandsFor us framer b → IsFault b at r → framer.doing ≡ Faulted (record { at = at; reason = r })
-fault_answered us framer b at r h z = go framer.doing refl h.stands
+pub fault_answered : (us : List UpdateView) (framer : State) (b : List ℕ) (at : ℕ) (r : Reason) → StandsFor us framer b → IsFault b at r → framer.phase ≡ Faulted (record { at = at; reason = r })
+fault_answered us framer b at r h z = go framer.phase refl h.stands
   where
-    none : GoesOnReading framer.doing → ⊥
+    none : IsReading framer.phase → ⊥
     none o = faultless us framer b h o at r z
 
-    go : (d : Doing) → framer.doing ≡ d → StandsAs d us framer.at framer.kept.items b → framer.doing ≡ Faulted (record { at = at; reason = r })
+    go : (d : Phase) → framer.phase ≡ d → StandsAs d us framer.at framer.kept.items b → framer.phase ≡ Faulted (record { at = at; reason = r })
     go Lines e s = absurd (none (rw e tt))
     go (Body begun len) e s = absurd (none (rw e tt))
     go (PatchLines p) e s = absurd (none (rw e tt))
@@ -102,10 +102,10 @@ pub failed_fault : (us : List UpdateView) (framer : State) (b : List ℕ) (f : F
 failed_fault us framer b f h e = subst (λ d. StandsAs d us framer.at framer.kept.items b) e h.stands
 
 -- where nothing is kept between updates the bytes are a stream
-pub rests : (us : List UpdateView) (framer : State) (b : List ℕ) → framer.doing ≡ Lines → framer.kept.items ≡ [] → StandsFor us framer b → IsStream us b
-rests us framer b d k h = go framer.doing d h.stands
+pub rests : (us : List UpdateView) (framer : State) (b : List ℕ) → framer.phase ≡ Lines → framer.kept.items ≡ [] → StandsFor us framer b → IsStream us b
+rests us framer b d k h = go framer.phase d h.stands
   where
-    go : (d : Doing) → d ≡ Lines → StandsAs d us framer.at framer.kept.items b → IsStream us b
+    go : (d : Phase) → d ≡ Lines → StandsAs d us framer.at framer.kept.items b → IsStream us b
     go Lines e s = subst (IsStream us) (sym (s.spelled ∙ ap (λ t. s.front ++ t) (s.left ∙ k) ∙ append-nil s.front)) s.stream
     go (Body begun len) e s = absurd (cc)
     go (PatchLines p) e s = absurd (cc)
@@ -125,13 +125,13 @@ gap_none kept line FirstField b g = absurd (begins_no_gap kept b g)
 gap_none kept line MoreFields b g = absurd (begins_no_gap kept b g)
 
 -- and only there
-pub rests_only : (us : List UpdateView) (framer : State) (b : List ℕ) → StandsFor us framer b → IsStream us b → (framer.doing ≡ Lines) × (framer.kept.items ≡ [])
-rests_only us framer b h t = go framer.doing refl h.framing h.stands
+pub rests_only : (us : List UpdateView) (framer : State) (b : List ℕ) → StandsFor us framer b → IsStream us b → (framer.phase ≡ Lines) × (framer.kept.items ≡ [])
+rests_only us framer b h t = go framer.phase refl h.framing h.stands
   where
-    gap : (d : Doing) → GoesOnReading d → IsInHand d framer.kept.items framer.line framer.awaits → (s : Stands us d framer.at framer.kept.items b) → IsGap s.rest
+    gap : (d : Phase) → IsReading d → IsInHand d framer.kept.items framer.line framer.awaits → (s : LeadsTo us d framer.at framer.kept.items b) → IsGap s.rest
     gap d o k s = end_gap us b us s.front s.rest t s.stream s.spelled (left_part d us framer.at framer.kept.items b framer.line framer.awaits o k s)
 
-    go : (d : Doing) → framer.doing ≡ d → IsInHand d framer.kept.items framer.line framer.awaits → StandsAs d us framer.at framer.kept.items b → (framer.doing ≡ Lines) × (framer.kept.items ≡ [])
+    go : (d : Phase) → framer.phase ≡ d → IsInHand d framer.kept.items framer.line framer.awaits → StandsAs d us framer.at framer.kept.items b → (framer.phase ≡ Lines) × (framer.kept.items ≡ [])
     go Lines e k s = (e, gap_none framer.kept.items framer.line framer.awaits k.0.begins (subst IsGap s.left (gap Lines tt k s)))
     go (Body begun len) e k s = absurd (begins_no_gap s.rest s.left (gap (Body begun len) tt k s))
     go (PatchLines p) e k s = absurd (begins_no_gap s.rest s.left (gap (PatchLines p) tt k s))
@@ -140,7 +140,7 @@ rests_only us framer b h t = go framer.doing refl h.framing h.stands
     go NoMemory e k s = absurd s
 
 -- so an answer that tells whether nothing is kept between updates tells whether the bytes are a stream
-pub rests_exactly : (us : List UpdateView) (framer : State) (b : List ℕ) (r : Bool) → (r ≡ true → (framer.doing ≡ Lines) × (framer.kept.items ≡ [])) → ((framer.doing ≡ Lines) × (framer.kept.items ≡ []) → r ≡ true) → StandsFor us framer b → IsTrue r ↔ IsStream us b
+pub rests_exactly : (us : List UpdateView) (framer : State) (b : List ℕ) (r : Bool) → (r ≡ true → (framer.phase ≡ Lines) × (framer.kept.items ≡ [])) → ((framer.phase ≡ Lines) × (framer.kept.items ≡ []) → r ≡ true) → StandsFor us framer b → IsTrue r ↔ IsStream us b
 rests_exactly us framer b r told tells h = (λ t. rests us framer b (told t).0 (told t).1 h, λ t. tells (rests_only us framer b h t))
 
 -- no items

@@ -28,10 +28,10 @@ use Rattle.braid_frame.specs.declared.state.Awaits.{Awaits}
 use Rattle.braid_frame.specs.declared.state.Awaits.TheVariants.{UpdateHead, PatchHead, FirstField, MoreFields}
 use Rattle.braid_frame.specs.declared.state.Begun.{Begun}
 use Rattle.braid_frame.specs.declared.state.Patching.{Patching}
-use Rattle.braid_frame.specs.declared.state.Doing.{Doing}
-use Rattle.braid_frame.specs.declared.state.Doing.TheVariants.{Lines, Body, PatchLines, PatchContent, Faulted, NoMemory}
+use Rattle.braid_frame.specs.declared.state.Phase.{Phase}
+use Rattle.braid_frame.specs.declared.state.Phase.TheVariants.{Lines, Body, PatchLines, PatchContent, Faulted, NoMemory}
 use Rattle.braid_frame.specs.HeadLines.{BeginsWithLine, BeginsSo, AreLines}
-use Rattle.braid_frame.specs.Goings.{resume, body_update, GoesOnReading, IsInHand, judge_of, with_patches, patches_update, behind_patch, behind_head, behind_count}
+use Rattle.braid_frame.specs.Phases.{resume, body_update, IsReading, IsInHand, judge_of, with_patches, patches_update, behind_patch, behind_head, behind_count}
 use Rattle.braid_frame.specs.Steps.{IsInLines, IsInContent}
 use Rattle.braid_frame.proofs.LinesKept.{as_begins}
 use Rattle.braid_frame.proofs.LinesJudged.{still_open}
@@ -44,7 +44,7 @@ then_assoc (Whole x at rest) f g = refl
 -- lines
 
 -- an empty line before a head is passed over
-pub lines_past : (d : Doing) (at : ℕ) (l more : List ℕ) → IsInLines d → is_empty_line l ≡ true → resume d at (l ++ more) ≡ resume d (at + length l) more
+pub lines_past : (d : Phase) (at : ℕ) (l more : List ℕ) → IsInLines d → is_empty_line l ≡ true → resume d at (l ++ more) ≡ resume d (at + length l) more
 lines_past Lines at l more i e = empty_reads update_at at l more e
 lines_past (PatchLines p) at l more i e =
     let past = empty_reads (patch_at p.used p.before) at l more e in
@@ -63,7 +63,7 @@ pub line_skipped : (at : ℕ) (bytes : List ℕ) → BeginsWithLine bytes → Is
 line_skipped at bytes b = record { update = some_reads update_at at bytes (as_begins bytes b); patch = λ used before. some_reads (patch_at used before) at bytes (as_begins bytes b) }
 
 -- a fault of a head
-pub lines_bad : (d : Doing) (at : ℕ) (kept : List ℕ) (to : ℕ) (r : Reason) → IsInLines d → IsSkipped at kept → head_at (judge_of d) at kept ≡ Bad to r → resume d at kept ≡ Bad to r
+pub lines_bad : (d : Phase) (at : ℕ) (kept : List ℕ) (to : ℕ) (r : Reason) → IsInLines d → IsSkipped at kept → head_at (judge_of d) at kept ≡ Bad to r → resume d at kept ≡ Bad to r
 lines_bad Lines at kept to r i k h = k.update ∙ rw h refl
 lines_bad (PatchLines p) at kept to r i k h =
     let one : past_gap (patch_at p.used p.before) at kept ≡ Bad to r = k.patch p.used p.before ∙ rw h refl in
@@ -214,7 +214,7 @@ pub no_utf8 : (kept : List ℕ) → ((text : List ℕ) → IsTextOf text kept �
 no_utf8 kept none = elim (cases_Bool (is_utf8 kept)) [ inl e ↦ absurd (none (chars kept) (chars_are_text kept e)) | inr e ↦ e ]
 
 -- a content that is no text
-pub content_bad : (d : Doing) (at : ℕ) (kept : List ℕ) → IsInContent d (length kept) → is_utf8 kept ≡ false → resume d at kept ≡ Bad at NotText
+pub content_bad : (d : Phase) (at : ℕ) (kept : List ℕ) → IsInContent d (length kept) → is_utf8 kept ≡ false → resume d at kept ≡ Bad at NotText
 content_bad (Body begun len) at kept i u = let b = bad_whole len at kept i u in rw b refl
 content_bad (PatchContent p plan) at kept i u = let b = bad_whole plan.len at kept i.0 u in rw b refl
 content_bad Lines at kept i u = absurd i
@@ -256,7 +256,7 @@ patch_next p q patch at x some b d l u e =
     go (Whole ps at rest) = one ps at rest
 
 -- what is in hand is not whole, and nothing is wrong with it
-pub still_part : (d : Doing) (at : ℕ) (kept : List ℕ) (line : ℕ) (awaits : Awaits) → GoesOnReading d → IsInHand d kept line awaits → resume d at kept ≡ Part
+pub still_part : (d : Phase) (at : ℕ) (kept : List ℕ) (line : ℕ) (awaits : Awaits) → IsReading d → IsInHand d kept line awaits → resume d at kept ≡ Part
 still_part Lines at kept line awaits o k = update_part at kept line awaits k.0 k.1
 still_part (Body begun len) at kept line awaits o k = let c : ltb (length kept) len ≡ true = lt-ltb (length kept) len k in rw c refl
 still_part (PatchLines p) at kept line awaits o k = let h = patch_part p.used p.before at kept line awaits k.0 k.1 in rw h refl

@@ -16,15 +16,15 @@ use Rattle.braid_grammar.proofs.Law.{stream_front}
 use Rattle.braid_frame.specs.declared.fed.FrameFault.{FrameFault}
 use Rattle.braid_frame.specs.declared.state.Begun.{Begun}
 use Rattle.braid_frame.specs.declared.state.Patching.{Patching}
-use Rattle.braid_frame.specs.declared.state.Doing.{Doing}
-use Rattle.braid_frame.specs.declared.state.Doing.TheVariants.{Lines, Body, PatchLines, PatchContent, Faulted, NoMemory}
+use Rattle.braid_frame.specs.declared.state.Phase.{Phase}
+use Rattle.braid_frame.specs.declared.state.Phase.TheVariants.{Lines, Body, PatchLines, PatchContent, Faulted, NoMemory}
 use Rattle.braid_frame.specs.HeadLines.{BeginsWithLine}
-use Rattle.braid_frame.specs.Goings.{resume, body_update, behind_patch, IsLeft, Stands, HasFault}
-use Rattle.braid_frame.specs.Steps.{IsInLines, IsInContent, Goes, Completed}
+use Rattle.braid_frame.specs.Phases.{resume, body_update, behind_patch, IsLeft, LeadsTo, HasFault}
+use Rattle.braid_frame.specs.Steps.{IsInLines, IsInContent, Resumes, Completed}
 use Rattle.braid_frame.proofs.LinesKept.{begins_more}
 use Rattle.braid_frame.proofs.Resumed.{lines_past, body_read, patch_read}
 
-left_more : (d : Doing) (kept rest x : List ℕ) → IsLeft d kept rest → IsLeft d (kept ++ x) (rest ++ x)
+left_more : (d : Phase) (kept rest x : List ℕ) → IsLeft d kept rest → IsLeft d (kept ++ x) (rest ++ x)
 left_more Lines kept rest x h = ap (λ t. t ++ x) h
 left_more (Body begun len) kept rest x h = begins_more rest x h
 left_more (PatchLines p) kept rest x h = begins_more rest x h
@@ -33,7 +33,7 @@ left_more (Faulted f) kept rest x h = h
 left_more NoMemory kept rest x h = h
 
 -- more bytes are kept
-pub more_kept : (us : List UpdateView) (d : Doing) (at : ℕ) (kept b x : List ℕ) → Stands us d at kept b → Stands us d at (kept ++ x) (b ++ x)
+pub more_kept : (us : List UpdateView) (d : Phase) (at : ℕ) (kept b x : List ℕ) → LeadsTo us d at kept b → LeadsTo us d at (kept ++ x) (b ++ x)
 more_kept us d at kept b x s = record {
   front = s.front;
   rest = s.rest ++ x;
@@ -45,7 +45,7 @@ more_kept us d at kept b x s = record {
 }
 
 -- what is kept has a fault
-pub faulty : (us : List UpdateView) (d : Doing) (at : ℕ) (kept b : List ℕ) (to : ℕ) (r : Reason) → Stands us d at kept b → resume d at kept ≡ Bad to r → HasFault us b (record { at = to; reason = r })
+pub faulty : (us : List UpdateView) (d : Phase) (at : ℕ) (kept b : List ℕ) (to : ℕ) (r : Reason) → LeadsTo us d at kept b → resume d at kept ≡ Bad to r → HasFault us b (record { at = to; reason = r })
 faulty us d at kept b to r s e = (
   record {
     updates = us;
@@ -78,7 +78,7 @@ fault_more us b more f h = (
     stays (Whole u to rest) p e k = absurd (cc)
 
 -- an empty line joins the gap
-pub gap_passed : (us : List UpdateView) (d : Doing) (at : ℕ) (kept b : List ℕ) → IsInLines d → is_empty_line kept ≡ true → Stands us d at kept b → Stands us d (at + length kept) [] b
+pub gap_passed : (us : List UpdateView) (d : Phase) (at : ℕ) (kept b : List ℕ) → IsInLines d → is_empty_line kept ≡ true → LeadsTo us d at kept b → LeadsTo us d (at + length kept) [] b
 gap_passed us Lines at kept b i e s =
     let whole : b ≡ s.front ++ kept = s.spelled ∙ ap (λ t. s.front ++ t) s.left in
     record {
@@ -105,7 +105,7 @@ gap_passed us (Faulted f) at kept b i e s = absurd i
 gap_passed us NoMemory at kept b i e s = absurd i
 
 -- what was kept is whole, and what follows is read otherwise
-pub goes_from : (us : List UpdateView) (d : Doing) (at : ℕ) (kept b : List ℕ) (reads : List ℕ → Outcome UpdateView) → (s : Stands us d at kept b) → BeginsWithLine s.rest → ((m : List ℕ) → resume d at (kept ++ m) ≡ reads m) → Goes us reads (at + length kept) b
+pub goes_from : (us : List UpdateView) (d : Phase) (at : ℕ) (kept b : List ℕ) (reads : List ℕ → Outcome UpdateView) → (s : LeadsTo us d at kept b) → BeginsWithLine s.rest → ((m : List ℕ) → resume d at (kept ++ m) ≡ reads m) → Resumes us reads (at + length kept) b
 goes_from us d at kept b reads s k same = record {
   front = s.front;
   rest = s.rest;
@@ -116,7 +116,7 @@ goes_from us d at kept b reads s k same = record {
   begins = k;
 }
 
-pub goes_same : (us : List UpdateView) (f g : List ℕ → Outcome UpdateView) (at to : ℕ) (b : List ℕ) → at ≡ to → ((x : List ℕ) → f x ≡ g x) → Goes us f at b → Goes us g to b
+pub goes_same : (us : List UpdateView) (f g : List ℕ → Outcome UpdateView) (at to : ℕ) (b : List ℕ) → at ≡ to → ((x : List ℕ) → f x ≡ g x) → Resumes us f at b → Resumes us g to b
 goes_same us f g at to b e same s = record {
   front = s.front;
   rest = s.rest;
@@ -128,7 +128,7 @@ goes_same us f g at to b e same s = record {
 }
 
 -- an update is in hand
-abbrev pub IsMidway : Doing → Type 0
+abbrev pub IsMidway : Phase → Type 0
 IsMidway Lines = ⊥
 IsMidway (Body begun len) = Unit {0}
 IsMidway (PatchLines p) = Unit {0}
@@ -136,7 +136,7 @@ IsMidway (PatchContent p plan) = Unit {0}
 IsMidway (Faulted f) = ⊥
 IsMidway NoMemory = ⊥
 
-pub goes_stands : (us : List UpdateView) (d : Doing) (at : ℕ) (b : List ℕ) → IsMidway d → Goes us (resume d at) at b → Stands us d at [] b
+pub goes_stands : (us : List UpdateView) (d : Phase) (at : ℕ) (b : List ℕ) → IsMidway d → Resumes us (resume d at) at b → LeadsTo us d at [] b
 goes_stands us d at b i g = record {
   front = g.front;
   rest = g.rest;
@@ -147,7 +147,7 @@ goes_stands us d at b i g = record {
   left = left d i;
 }
   where
-    left : (d : Doing) → IsMidway d → IsLeft d [] g.rest
+    left : (d : Phase) → IsMidway d → IsLeft d [] g.rest
     left Lines i = absurd i
     left (Body begun len) i = g.begins
     left (PatchLines p) i = g.begins
@@ -156,7 +156,7 @@ goes_stands us d at b i g = record {
     left NoMemory i = absurd i
 
 -- the update is whole
-pub stands_completed : (us : List UpdateView) (d : Doing) (at : ℕ) (kept b : List ℕ) (u : UpdateView) → Stands us d at kept b → resume d at kept ≡ Whole u (at + length kept) [] → Completed us u (at + length kept) b
+pub stands_completed : (us : List UpdateView) (d : Phase) (at : ℕ) (kept b : List ℕ) (u : UpdateView) → LeadsTo us d at kept b → resume d at kept ≡ Whole u (at + length kept) [] → Completed us u (at + length kept) b
 stands_completed us d at kept b u s e = record {
   front = s.front;
   rest = s.rest;
@@ -166,7 +166,7 @@ stands_completed us d at kept b u s e = record {
   place = s.place;
 }
 
-pub goes_completed : (us : List UpdateView) (reads : List ℕ → Outcome UpdateView) (at : ℕ) (b : List ℕ) (u : UpdateView) → Goes us reads at b → reads [] ≡ Whole u at [] → Completed us u at b
+pub goes_completed : (us : List UpdateView) (reads : List ℕ → Outcome UpdateView) (at : ℕ) (b : List ℕ) (u : UpdateView) → Resumes us reads at b → reads [] ≡ Whole u at [] → Completed us u at b
 goes_completed us reads at b u g e = record {
   front = g.front;
   rest = g.rest;
@@ -202,7 +202,7 @@ module _ (us : List UpdateView) (u : UpdateView) (at : ℕ) (b : List ℕ) (c : 
   next = next_back (length c.front) c.rest u at [] c.whole
 
   -- a framer stands between updates again
-  pub completed_stands : Stands (us ++ u ∷ []) Lines at [] b
+  pub completed_stands : LeadsTo (us ++ u ∷ []) Lines at [] b
   completed_stands = record {
     front = b;
     rest = [];
@@ -227,31 +227,31 @@ module _ (us : List UpdateView) (u : UpdateView) (at : ℕ) (b : List ℕ) (c : 
   completed_spelled = next.is_first
 
 -- the same, where update and bytes are written otherwise
-pub completed_is : (us : List UpdateView) (u v : UpdateView) (at : ℕ) (kept b : List ℕ) → v ≡ u → kept ≡ [] → Completed us u at b → Stands (us ++ v ∷ []) Lines at kept b × EndsWith us v b
+pub completed_is : (us : List UpdateView) (u v : UpdateView) (at : ℕ) (kept b : List ℕ) → v ≡ u → kept ≡ [] → Completed us u at b → LeadsTo (us ++ v ∷ []) Lines at kept b × EndsWith us v b
 completed_is us u v at kept b e k c = (
-  subst (λ x. Stands (us ++ x ∷ []) Lines at kept b) (sym e) (subst (λ x. Stands (us ++ u ∷ []) Lines at x b) (sym k) (completed_stands us u at b c)),
+  subst (λ x. LeadsTo (us ++ x ∷ []) Lines at kept b) (sym e) (subst (λ x. LeadsTo (us ++ u ∷ []) Lines at x b) (sym k) (completed_stands us u at b c)),
   subst (λ x. EndsWith us x b) (sym e) (completed_ends us u at b c),
 )
 
 -- nothing is kept, and no update was completed
-pub stands_clean : (us : List UpdateView) (d : Doing) (at : ℕ) (kept b : List ℕ) → kept ≡ [] → Stands us d at [] b → Stands (us ++ []) d at kept b
-stands_clean us d at kept b k s = subst (λ vs. Stands vs d at kept b) (sym (append-nil us)) (subst (λ x. Stands us d at x b) (sym k) s)
+pub stands_clean : (us : List UpdateView) (d : Phase) (at : ℕ) (kept b : List ℕ) → kept ≡ [] → LeadsTo us d at [] b → LeadsTo (us ++ []) d at kept b
+stands_clean us d at kept b k s = subst (λ vs. LeadsTo vs d at kept b) (sym (append-nil us)) (subst (λ x. LeadsTo us d at x b) (sym k) s)
 
 -- a body that is whole
-pub body_completed : (us : List UpdateView) (d : Doing) (begun : Begun) (len at to : ℕ) (text kept b : List ℕ) → d ≡ Body begun len → IsInContent d (length kept) → IsTextOf text kept → to ≡ at + length kept → Stands us d at kept b → Completed us (body_update begun text) to b
+pub body_completed : (us : List UpdateView) (d : Phase) (begun : Begun) (len at to : ℕ) (text kept b : List ℕ) → d ≡ Body begun len → IsInContent d (length kept) → IsTextOf text kept → to ≡ at + length kept → LeadsTo us d at kept b → Completed us (body_update begun text) to b
 body_completed us d begun len at to text kept b e i t p s =
     let l : length kept ≡ len = subst (λ x. IsInContent x (length kept)) e i in
     subst (λ n. Completed us (body_update begun text) n b) (sym p)
-    (stands_completed us (Body begun len) at kept b (body_update begun text) (subst (λ x. Stands us x at kept b) e s) (body_read begun len at text kept l t))
+    (stands_completed us (Body begun len) at kept b (body_update begun text) (subst (λ x. LeadsTo us x at kept b) e s) (body_read begun len at text kept l t))
 
 -- a patch's content that is whole
-pub patch_goes : (us : List UpdateView) (d : Doing) (p : Patching) (plan : PatchPlan) (at to : ℕ) (text kept b : List ℕ) → d ≡ PatchContent p plan → IsInContent d (length kept) → IsTextOf text kept → to ≡ at + length kept → Stands us d at kept b → Goes us (behind_patch p (patch_of plan text) to) to b
+pub patch_goes : (us : List UpdateView) (d : Phase) (p : Patching) (plan : PatchPlan) (at to : ℕ) (text kept b : List ℕ) → d ≡ PatchContent p plan → IsInContent d (length kept) → IsTextOf text kept → to ≡ at + length kept → LeadsTo us d at kept b → Resumes us (behind_patch p (patch_of plan text) to) to b
 patch_goes us d p plan at to text kept b e i t q s =
     let l : (length kept ≡ plan.len) × (p.used + plan.len < 2 ^ 32) = subst (λ x. IsInContent x (length kept)) e i in
-    let z : Stands us (PatchContent p plan) at kept b = subst (λ x. Stands us x at kept b) e s in
-    subst (λ n. Goes us (behind_patch p (patch_of plan text) n) n b) (sym q)
+    let z : LeadsTo us (PatchContent p plan) at kept b = subst (λ x. LeadsTo us x at kept b) e s in
+    subst (λ n. Resumes us (behind_patch p (patch_of plan text) n) n b) (sym q)
     (goes_from us (PatchContent p plan) at kept b (behind_patch p (patch_of plan text) (at + length kept)) z z.left (λ m. patch_read p plan at text kept m l.0 t))
 
 -- nothing was fed
-pub none_stands : (kept : List ℕ) → kept ≡ [] → Stands [] Lines 0 kept []
-none_stands kept k = subst (λ x. Stands [] Lines 0 x []) (sym k) (record { front = []; rest = []; stream = no_line; spelled = refl; place = omega arith; goes_on = λ m. refl; left = refl })
+pub none_stands : (kept : List ℕ) → kept ≡ [] → LeadsTo [] Lines 0 kept []
+none_stands kept k = subst (λ x. LeadsTo [] Lines 0 x []) (sym k) (record { front = []; rest = []; stream = no_line; spelled = refl; place = omega arith; goes_on = λ m. refl; left = refl })

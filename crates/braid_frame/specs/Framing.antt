@@ -6,26 +6,26 @@ use Rattle.braid_frame.specs.declared.fed.Fed.{Fed}
 use Rattle.braid_frame.specs.declared.fed.FrameFault.{FrameFault}
 use Rattle.braid_frame.specs.declared.fed.FeedFault.{FeedFault}
 use Rattle.braid_frame.specs.declared.fed.FeedFault.TheVariants.{Frame, Memory}
-use Rattle.braid_frame.specs.declared.state.Doing.TheVariants.{Faulted, NoMemory}
+use Rattle.braid_frame.specs.declared.state.Phase.TheVariants.{Faulted, NoMemory}
 use Rattle.braid_frame.specs.declared.state.State.{State}
-use Rattle.braid_frame.specs.Goings.{StandsAs, IsFraming, GoesOnReading}
+use Rattle.braid_frame.specs.Phases.{StandsAs, IsFraming, IsReading}
 
 -- a framer has answered no fault and no want of memory
 abbrev pub IsOpen : State → Type 0
-IsOpen framer = GoesOnReading framer.doing
+IsOpen framer = IsReading framer.phase
 
 -- a framer has answered this fault
 abbrev pub HasFailed : State → FrameFault → Type 0
-HasFailed framer fault = framer.doing ≡ Faulted fault
+HasFailed framer fault = framer.phase ≡ Faulted fault
 
 -- a framer has answered want of memory
 abbrev pub HadNoMemory : State → Type 0
-HadNoMemory framer = framer.doing ≡ NoMemory
+HadNoMemory framer = framer.phase ≡ NoMemory
 
 -- a framer was fed these bytes, and has answered these updates
 pub record StandsFor (us : List UpdateView) (framer : State) (bytes : List ℕ) : Type 0 where
   pub framing : IsFraming framer
-  pub stands : StandsAs framer.doing us framer.at framer.kept.items bytes
+  pub stands : StandsAs framer.phase us framer.at framer.kept.items bytes
 
 -- the updates that a feed answered: none or one
 abbrev pub updates_of : Option UpdateView → List UpdateView

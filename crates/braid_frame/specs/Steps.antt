@@ -9,39 +9,29 @@ use Rattle.braid_grammar.specs.Streams.{IsStream}
 use Rattle.braid_frame.specs.declared.fed.Fed.{Fed}
 use Rattle.braid_frame.specs.declared.fed.FeedFault.{FeedFault}
 use Rattle.braid_frame.specs.declared.fed.FeedFault.TheVariants.{Frame, Memory}
-use Rattle.braid_frame.specs.declared.state.Doing.{Doing}
-use Rattle.braid_frame.specs.declared.state.Doing.TheVariants.{Lines, Body, PatchLines, PatchContent, Faulted, NoMemory}
+use Rattle.braid_frame.specs.declared.state.Phase.{Phase}
+use Rattle.braid_frame.specs.declared.state.Phase.TheVariants.{Lines, Body, PatchLines, PatchContent, Faulted, NoMemory}
 use Rattle.braid_frame.specs.declared.state.State.{State}
 use Rattle.braid_frame.specs.HeadLines.{BeginsWithLine}
-use Rattle.braid_frame.specs.Goings.{Stands, StandsAs, GoesOnReading, HasFault}
+use Rattle.braid_frame.specs.Phases.{LeadsTo, StandsAs, IsReading, HasFault}
 use Rattle.braid_frame.specs.Framing.{updates_of, IfEnds}
 
 -- lines are being read, those of an update's head or of a patch's
-abbrev pub IsInLines : Doing → Type 0
+abbrev pub IsInLines : Phase → Type 0
 IsInLines Lines = Unit {0}
-IsInLines (Body begun len) = ⊥
 IsInLines (PatchLines p) = Unit {0}
-IsInLines (PatchContent p plan) = ⊥
-IsInLines (Faulted f) = ⊥
-IsInLines NoMemory = ⊥
+IsInLines _ = ⊥
 
 -- a content of so many bytes is being read
-abbrev pub IsInContent : Doing → ℕ → Type 0
-IsInContent Lines n = ⊥
+abbrev pub IsInContent : Phase → ℕ → Type 0
 IsInContent (Body begun len) n = n ≡ len
-IsInContent (PatchLines p) n = ⊥
 IsInContent (PatchContent p plan) n = (n ≡ plan.len) × (p.used + plan.len < 2 ^ 32)
-IsInContent (Faulted f) n = ⊥
-IsInContent NoMemory n = ⊥
+IsInContent _ n = ⊥
 
 -- the lines of a patch's head are being read, after so many bytes of contents and a range that ended there
-abbrev pub IsInPatchLines : Doing → ℕ → ℕ → Type 0
-IsInPatchLines Lines used before = ⊥
-IsInPatchLines (Body begun len) used before = ⊥
+abbrev pub IsInPatchLines : Phase → ℕ → ℕ → Type 0
 IsInPatchLines (PatchLines p) used before = (used ≡ p.used) × (before ≡ p.before)
-IsInPatchLines (PatchContent p plan) used before = ⊥
-IsInPatchLines (Faulted f) used before = ⊥
-IsInPatchLines NoMemory used before = ⊥
+IsInPatchLines _ used before = ⊥
 
 -- nothing is kept
 abbrev pub IsClean : State → Type 0
@@ -49,7 +39,7 @@ IsClean s = (s.kept.items ≡ []) × (s.line ≡ 0)
 
 -- a head, or a content of it, has ended with the bytes, which are a stream of these updates and what is left over; the
 -- update that this begins is read from what follows
-pub record Goes (us : List UpdateView) (reads : List ℕ → Outcome UpdateView) (at : ℕ) (bytes : List ℕ) : Type 0 where
+pub record Resumes (us : List UpdateView) (reads : List ℕ → Outcome UpdateView) (at : ℕ) (bytes : List ℕ) : Type 0 where
   pub front : List ℕ
   pub rest : List ℕ
   pub stream : IsStream us front
@@ -70,48 +60,48 @@ pub record Completed (us : List UpdateView) (u : UpdateView) (at : ℕ) (bytes :
 -- what is left where a line, a head or a content has ended with the bytes: the step took so much of its piece
 abbrev pub Finishes : List UpdateView → List ℕ → ℕ → Result Fed FeedFault → State → Type 0
 Finishes us bytes taken (Ok fed) new =
-    (fed.taken ≡ taken) × StandsAs new.doing (us ++ updates_of fed.update) new.at new.kept.items bytes × GoesOnReading new.doing × IfEnds us fed.update bytes
-Finishes us bytes taken (Err (Frame f)) new = HasFault us bytes f × (new.doing ≡ Faulted f)
-Finishes us bytes taken (Err Memory) new = new.doing ≡ NoMemory
+    (fed.taken ≡ taken) × StandsAs new.phase (us ++ updates_of fed.update) new.at new.kept.items bytes × IsReading new.phase × IfEnds us fed.update bytes
+Finishes us bytes taken (Err (Frame f)) new = HasFault us bytes f × (new.phase ≡ Faulted f)
+Finishes us bytes taken (Err Memory) new = new.phase ≡ NoMemory
 
 -- what one step leaves, which takes some of its piece
 pub record StepsOn (us : List UpdateView) (bytes piece : List ℕ) (fed : Fed) (new : State) : Type 0 where
   pub some : 0 < fed.taken
   pub within : fed.taken ≤ length piece
-  pub stands : StandsAs new.doing (us ++ updates_of fed.update) new.at new.kept.items (bytes ++ take fed.taken piece)
-  pub open_still : GoesOnReading new.doing
+  pub stands : StandsAs new.phase (us ++ updates_of fed.update) new.at new.kept.items (bytes ++ take fed.taken piece)
+  pub open_still : IsReading new.phase
   pub ends : IfEnds us fed.update (bytes ++ take fed.taken piece)
 
 abbrev pub Steps : List UpdateView → List ℕ → List ℕ → Result Fed FeedFault → State → Type 0
 Steps us bytes piece (Ok fed) new = StepsOn us bytes piece fed new
-Steps us bytes piece (Err (Frame f)) new = HasFault us (bytes ++ piece) f × (new.doing ≡ Faulted f)
-Steps us bytes piece (Err Memory) new = new.doing ≡ NoMemory
+Steps us bytes piece (Err (Frame f)) new = HasFault us (bytes ++ piece) f × (new.phase ≡ Faulted f)
+Steps us bytes piece (Err Memory) new = new.phase ≡ NoMemory
 
 -- a head that asks for nothing is a fault at the head's place, or there was no memory
 abbrev pub IsRefused : ℕ → PlanFault → FeedFault → State → Type 0
-IsRefused at (plans.Reason r) fault new = (fault ≡ Frame (record { at = at; reason = r })) × (new.doing ≡ Faulted (record { at = at; reason = r }))
-IsRefused at plans.Memory fault new = (fault ≡ Memory) × (new.doing ≡ NoMemory)
+IsRefused at (plans.Reason r) fault new = (fault ≡ Frame (record { at = at; reason = r })) × (new.phase ≡ Faulted (record { at = at; reason = r }))
+IsRefused at plans.Memory fault new = (fault ≡ Memory) × (new.phase ≡ NoMemory)
 
--- a framer in this state stands for some updates and bytes
-abbrev pub CanStand : Doing → ℕ → List ℕ → Type 0
-CanStand doing at kept = (us : List UpdateView) × (b : List ℕ) × Stands us doing at kept b
+-- some updates and bytes lead to this phase
+abbrev pub IsReached : Phase → ℕ → List ℕ → Type 0
+IsReached phase at kept = (us : List UpdateView) × (b : List ℕ) × LeadsTo us phase at kept b
 
--- for whatever updates and bytes a framer in this state stands
-abbrev pub ForStand : Doing → ℕ → List ℕ → (List UpdateView → List ℕ → Type 0) → Type 0
-ForStand doing at kept P = (us : List UpdateView) (b : List ℕ) → Stands us doing at kept b → P us b
+-- whatever updates and bytes lead to this phase
+abbrev pub WhereReached : Phase → ℕ → List ℕ → (List UpdateView → List ℕ → Type 0) → Type 0
+WhereReached phase at kept P = (us : List UpdateView) (b : List ℕ) → LeadsTo us phase at kept b → P us b
 
--- behind some updates and bytes, what follows is read so
-abbrev pub CanGo : (List ℕ → Outcome UpdateView) → ℕ → Type 0
-CanGo reads at = (us : List UpdateView) × (b : List ℕ) × Goes us reads at b
+-- behind some updates and bytes what follows is read so
+abbrev pub IsResumed : (List ℕ → Outcome UpdateView) → ℕ → Type 0
+IsResumed reads at = (us : List UpdateView) × (b : List ℕ) × Resumes us reads at b
 
 -- behind whatever updates and bytes what follows is read so
-abbrev pub ForGo : (List ℕ → Outcome UpdateView) → ℕ → (List UpdateView → List ℕ → Type 0) → Type 0
-ForGo reads at P = (us : List UpdateView) (b : List ℕ) → Goes us reads at b → P us b
+abbrev pub WhereResumed : (List ℕ → Outcome UpdateView) → ℕ → (List UpdateView → List ℕ → Type 0) → Type 0
+WhereResumed reads at P = (us : List UpdateView) (b : List ℕ) → Resumes us reads at b → P us b
 
 -- some updates and bytes end with this update
-abbrev pub CanEnd : UpdateView → ℕ → Type 0
-CanEnd u at = (us : List UpdateView) × (b : List ℕ) × Completed us u at b
+abbrev pub IsCompleted : UpdateView → ℕ → Type 0
+IsCompleted u at = (us : List UpdateView) × (b : List ℕ) × Completed us u at b
 
 -- whatever updates and bytes end with this update
-abbrev pub ForEnd : UpdateView → ℕ → (List UpdateView → List ℕ → Type 0) → Type 0
-ForEnd u at P = (us : List UpdateView) (b : List ℕ) → Completed us u at b → P us b
+abbrev pub WhereCompleted : UpdateView → ℕ → (List UpdateView → List ℕ → Type 0) → Type 0
+WhereCompleted u at P = (us : List UpdateView) (b : List ℕ) → Completed us u at b → P us b

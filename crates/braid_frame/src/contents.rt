@@ -3,12 +3,12 @@
 ghost use Rattle.std.specs.Prelude.{◌≡◌, ◌+◌, ◌<◌, ◌^◌, [], length, Ok};
 ghost use Rattle.braid_change.specs.Texts.{IsTextOf};
 ghost use Rattle.braid_grammar.specs.Readings.{patch_len};
-ghost use Rattle.braid_frame.specs.Goings.{IsFraming, behind_head, behind_patch, behind_count};
-ghost use Rattle.braid_frame.specs.Steps.{IsInContent, IsClean, CanStand, ForStand, CanGo, ForGo, CanEnd, ForEnd, Finishes, Steps};
+ghost use Rattle.braid_frame.specs.Phases.{IsFraming, behind_head, behind_patch, behind_count};
+ghost use Rattle.braid_frame.specs.Steps.{IsInContent, IsClean, IsReached, WhereReached, IsResumed, WhereResumed, IsCompleted, WhereCompleted, Finishes, Steps};
 
 use crate::ends::{fail, pass_over, run_out};
 use crate::fed::{Fed, FeedFault};
-use crate::state::{Awaits, Begun, Doing, Patching, State};
+use crate::state::{Awaits, Begun, Patching, Phase, State};
 use braid_change::{Change, ListPatch, Patch, Text, TextFault, Update};
 use braid_fields::{Asks, Plan, Reason};
 use std::alloc::Global;
@@ -23,9 +23,9 @@ pub fn begin_update(
 ) -> Result<Fed, FeedFault>
     requires clean { IsClean state.old }
     requires room { state.old.at < 2 ^ 64 }
-    requires stands { CanGo (behind_head plan state.old.at) state.old.at }
+    requires stands { IsResumed (behind_head plan state.old.at) state.old.at }
     ensures framing { IsFraming state.new }
-    ensures finishes { ForGo (behind_head plan state.old.at) state.old.at
+    ensures finishes { WhereResumed (behind_head plan state.old.at) state.old.at
         (λ us b. Finishes us b taken result state.new) }
 {
     let asks = plan.asks;
@@ -34,7 +34,7 @@ pub fn begin_update(
         parents: plan.parents,
     };
     match asks {
-        Asks::Body { len } => begin_content(alloc, state, Doing::Body(begun, len), len, taken),
+        Asks::Body { len } => begin_content(alloc, state, Phase::Body(begun, len), len, taken),
         Asks::OnePatch { patch } => {
             let patching = Patching {
                 begun,
@@ -43,8 +43,8 @@ pub fn begin_update(
                 used: 0,
                 before: 0,
             };
-            let doing = Doing::PatchContent(patching, patch);
-            begin_content(alloc, state, doing, patch.len, taken)
+            let phase = Phase::PatchContent(patching, patch);
+            begin_content(alloc, state, phase, patch.len, taken)
         }
         Asks::Patches { count } => begin_patches(alloc, state, begun, count, taken),
     }
@@ -59,16 +59,16 @@ fn begin_patches(
     taken: usize,
 ) -> Result<Fed, FeedFault>
     requires clean { IsClean state.old }
-    requires stands { CanGo (behind_count begun count state.old.at) state.old.at }
+    requires stands { IsResumed (behind_count begun count state.old.at) state.old.at }
     ensures framing { IsFraming state.new }
-    ensures finishes { ForGo (behind_count begun count state.old.at) state.old.at
+    ensures finishes { WhereResumed (behind_count begun count state.old.at) state.old.at
         (λ us b. Finishes us b taken result state.new) }
 {
     if count == 0 {
         let change = Change::Patches(ListPatch::of(Vec::new(alloc)));
         return Ok(complete(state, begun, change, taken));
     }
-    state.doing = Doing::PatchLines(Patching {
+    state.phase = Phase::PatchLines(Patching {
         begun,
         done: Vec::new(alloc),
         left: count - 1,
@@ -86,18 +86,18 @@ fn begin_patches(
 pub fn begin_content(
     alloc: Global,
     state: &mut State,
-    doing: Doing,
+    phase: Phase,
     len: u32,
     taken: usize,
 ) -> Result<Fed, FeedFault>
     requires clean { IsClean state.old }
     requires room { state.old.at < 2 ^ 64 }
-    requires content { IsInContent doing len }
-    requires stands { CanStand doing state.old.at [] }
+    requires content { IsInContent phase len }
+    requires stands { IsReached phase state.old.at [] }
     ensures framing { IsFraming state.new }
-    ensures finishes { ForStand doing state.old.at [] (λ us b. Finishes us b taken result state.new) }
+    ensures finishes { WhereReached phase state.old.at [] (λ us b. Finishes us b taken result state.new) }
 {
-    state.doing = doing;
+    state.phase = phase;
     if len == 0 {
         return end_content(alloc, state, taken);
     }
@@ -107,20 +107,20 @@ pub fn begin_content(
     })
 }
 
-/// Goes on in a content of `len` bytes.
+/// Resumes on in a content of `len` bytes.
 pub fn step_content(
     alloc: Global,
     state: &mut State,
     len: u32,
     piece: &[u8],
 ) -> Result<Fed, FeedFault>
-    requires content { IsInContent state.old.doing len }
+    requires content { IsInContent state.old.phase len }
     requires short { length state.old.kept.items < len }
     requires some { 0 < length piece.now }
     requires room { state.old.at + length state.old.kept.items + length piece.now < 2 ^ 64 }
-    requires stands { CanStand state.old.doing state.old.at state.old.kept.items }
+    requires stands { IsReached state.old.phase state.old.at state.old.kept.items }
     ensures framing { IsFraming state.new }
-    ensures steps { ForStand state.old.doing state.old.at state.old.kept.items
+    ensures steps { WhereReached state.old.phase state.old.at state.old.kept.items
         (λ us b. Steps us b piece.now result state.new) }
 {
     let len = len as usize;
@@ -137,13 +137,13 @@ pub fn step_content(
     })
 }
 
-/// Goes on behind a content that is kept whole.
+/// Resumes on behind a content that is kept whole.
 fn end_content(alloc: Global, state: &mut State, taken: usize) -> Result<Fed, FeedFault>
-    requires content { IsInContent state.old.doing (length state.old.kept.items) }
+    requires content { IsInContent state.old.phase (length state.old.kept.items) }
     requires room { state.old.at + length state.old.kept.items < 2 ^ 64 }
-    requires stands { CanStand state.old.doing state.old.at state.old.kept.items }
+    requires stands { IsReached state.old.phase state.old.at state.old.kept.items }
     ensures framing { IsFraming state.new }
-    ensures finishes { ForStand state.old.doing state.old.at state.old.kept.items
+    ensures finishes { WhereReached state.old.phase state.old.at state.old.kept.items
         (λ us b. Finishes us b taken result state.new) }
 {
     match Text::read(alloc, &state.kept) {
@@ -158,20 +158,20 @@ fn end_content(alloc: Global, state: &mut State, taken: usize) -> Result<Fed, Fe
     }
 }
 
-/// Goes on behind a content that is this text.
+/// Resumes on behind a content that is this text.
 fn end_text(state: &mut State, text: Text, taken: usize) -> Result<Fed, FeedFault>
-    requires content { IsInContent state.old.doing (length state.old.kept.items) }
+    requires content { IsInContent state.old.phase (length state.old.kept.items) }
     requires text { IsTextOf text state.old.kept.items }
     requires room { state.old.at + length state.old.kept.items < 2 ^ 64 }
-    requires stands { CanStand state.old.doing state.old.at state.old.kept.items }
+    requires stands { IsReached state.old.phase state.old.at state.old.kept.items }
     ensures framing { IsFraming state.new }
-    ensures finishes { ForStand state.old.doing state.old.at state.old.kept.items
+    ensures finishes { WhereReached state.old.phase state.old.at state.old.kept.items
         (λ us b. Finishes us b taken result state.new) }
 {
     pass_over(state);
-    match mem::replace(&mut state.doing, Doing::Lines) {
-        Doing::Body(begun, _) => Ok(complete(state, begun, Change::Body(text), taken)),
-        Doing::PatchContent(patching, plan) => {
+    match mem::replace(&mut state.phase, Phase::Lines) {
+        Phase::Body(begun, _) => Ok(complete(state, begun, Change::Body(text), taken)),
+        Phase::PatchContent(patching, plan) => {
             let patch = Patch {
                 start: plan.start,
                 end: plan.end,
@@ -183,7 +183,7 @@ fn end_text(state: &mut State, text: Text, taken: usize) -> Result<Fed, FeedFaul
     }
 }
 
-/// Goes on behind a patch that is whole, whose content has `len` bytes.
+/// Resumes on behind a patch that is whole, whose content has `len` bytes.
 fn end_patch(
     state: &mut State,
     patching: Patching,
@@ -194,9 +194,9 @@ fn end_patch(
     requires clean { IsClean state.old }
     requires len { len ≡ patch_len patch }
     requires used { patching.used + len < 2 ^ 32 }
-    requires stands { CanGo (behind_patch patching patch state.old.at) state.old.at }
+    requires stands { IsResumed (behind_patch patching patch state.old.at) state.old.at }
     ensures framing { IsFraming state.new }
-    ensures finishes { ForGo (behind_patch patching patch state.old.at) state.old.at
+    ensures finishes { WhereResumed (behind_patch patching patch state.old.at) state.old.at
         (λ us b. Finishes us b taken result state.new) }
 {
     let before = patch.end;
@@ -208,7 +208,7 @@ fn end_patch(
         let change = Change::Patches(ListPatch::of(done));
         return Ok(complete(state, patching.begun, change, taken));
     }
-    state.doing = Doing::PatchLines(Patching {
+    state.phase = Phase::PatchLines(Patching {
         begun: patching.begun,
         done,
         left: patching.left - 1,
@@ -225,12 +225,12 @@ fn end_patch(
 /// The update that is whole; what comes next stands between updates.
 fn complete(state: &mut State, begun: Begun, change: Change, taken: usize) -> Fed
     requires clean { IsClean state.old }
-    requires stands { CanEnd (record { id = begun.id; parents = begun.parents; change = change }) state.old.at }
+    requires stands { IsCompleted (record { id = begun.id; parents = begun.parents; change = change }) state.old.at }
     ensures framing { IsFraming state.new }
-    ensures finishes { ForEnd (record { id = begun.id; parents = begun.parents; change = change }) state.old.at
+    ensures finishes { WhereCompleted (record { id = begun.id; parents = begun.parents; change = change }) state.old.at
         (λ us b. Finishes us b taken (Ok result) state.new) }
 {
-    state.doing = Doing::Lines;
+    state.phase = Phase::Lines;
     state.awaits = Awaits::UpdateHead;
     let Ok(update) = Update::build(begun.id, begun.parents, change) else {
         unreachable!();

@@ -1,30 +1,30 @@
 //! The ends of a framer, and passing on from what was read.
 
 ghost use Rattle.std.specs.Prelude.{◌≡◌, ◌+◌, ◌<◌, ◌^◌, [], length};
-ghost use Rattle.braid_frame.specs.declared.state.Doing.TheVariants as doings;
+ghost use Rattle.braid_frame.specs.declared.state.Phase.TheVariants as phases;
 ghost use Rattle.braid_frame.specs.declared.fed.FeedFault.TheVariants as faults;
 ghost use Rattle.braid_frame.specs.Steps.{IsRefused};
 
 use crate::fed::{FeedFault, FrameFault};
-use crate::state::{Doing, State};
+use crate::state::{Phase, State};
 use braid_fields::{PlanFault, Reason};
 
 /// Stops for good with a fault.
 pub fn fail(state: &mut State, at: u64, reason: Reason) -> FeedFault
-    ensures doing { state.new.doing ≡ doings.Faulted (record { at = at; reason = reason }) }
+    ensures phase { state.new.phase ≡ phases.Faulted (record { at = at; reason = reason }) }
     ensures fault { result ≡ faults.Frame (record { at = at; reason = reason }) }
 {
     let fault = FrameFault { at, reason };
-    state.doing = Doing::Faulted(fault);
+    state.phase = Phase::Faulted(fault);
     FeedFault::Frame(fault)
 }
 
 /// Stops for good without memory.
 pub fn run_out(state: &mut State) -> FeedFault
-    ensures doing { state.new.doing ≡ doings.NoMemory }
+    ensures phase { state.new.phase ≡ phases.NoMemory }
     ensures fault { result ≡ faults.Memory }
 {
-    state.doing = Doing::NoMemory;
+    state.phase = Phase::NoMemory;
     FeedFault::Memory
 }
 
@@ -48,7 +48,7 @@ pub fn pass_over(state: &mut State)
     ensures kept { state.new.kept.items ≡ [] }
     ensures line { state.new.line ≡ 0 }
     ensures awaits { state.new.awaits ≡ state.old.awaits }
-    ensures doing { state.new.doing ≡ state.old.doing }
+    ensures phase { state.new.phase ≡ state.old.phase }
 {
     state.at += state.kept.len() as u64;
     state.kept.clear();

@@ -5,11 +5,11 @@ ghost use Rattle.braid_change.specs.Updates.{UpdateView};
 ghost use Rattle.braid_grammar.specs.Streams.{IsStream};
 ghost use Rattle.braid_frame.specs.declared.fed.FeedFault.TheVariants as faults;
 ghost use Rattle.braid_frame.specs.declared.fed.FrameFault.{FrameFault};
-ghost use Rattle.braid_frame.specs.Goings.{IsFraming};
+ghost use Rattle.braid_frame.specs.Phases.{IsFraming};
 ghost use Rattle.braid_frame.specs.Framing.{StandsFor, IsOpen, HasFailed, HadNoMemory, Feeds};
 
 use crate::fed::{Fed, FeedFault};
-use crate::state::{Awaits, Doing, State};
+use crate::state::{Awaits, Phase, State};
 use crate::steps::step;
 use std::alloc::Global;
 use std::marker::Model;
@@ -25,7 +25,7 @@ pub struct Framer {
 
 impl Model for Framer {
     ghost use Rattle.braid_frame.specs.declared.state.State.{State};
-    ghost use Rattle.braid_frame.specs.Goings.{IsFraming};
+    ghost use Rattle.braid_frame.specs.Phases.{IsFraming};
 
     ghost Value = { State };
 
@@ -47,7 +47,7 @@ impl Framer {
                 kept: Vec::new(alloc),
                 line: 0,
                 awaits: Awaits::UpdateHead,
-                doing: Doing::Lines,
+                phase: Phase::Lines,
             },
         }
     }
@@ -68,9 +68,9 @@ impl Framer {
             → (result ≡ Err (faults.Frame fault)) × (self.new ≡ self.old) }
         ensures memory { HadNoMemory self.old → (result ≡ Err faults.Memory) × (self.new ≡ self.old) }
     {
-        match &self.state.doing {
-            Doing::Faulted(fault) => Err(FeedFault::Frame(*fault)),
-            Doing::NoMemory => Err(FeedFault::Memory),
+        match &self.state.phase {
+            Phase::Faulted(fault) => Err(FeedFault::Frame(*fault)),
+            Phase::NoMemory => Err(FeedFault::Memory),
             _ => feed(self.alloc, &mut self.state, piece),
         }
     }
@@ -80,8 +80,8 @@ impl Framer {
     pub fn resting(&self) -> bool
         ensures rests { (us : List UpdateView) (b : List ℕ) → StandsFor us self.now b → IsTrue result ↔ IsStream us b }
     {
-        match &self.state.doing {
-            Doing::Lines => self.state.kept.is_empty(),
+        match &self.state.phase {
+            Phase::Lines => self.state.kept.is_empty(),
             _ => false,
         }
     }

@@ -6,7 +6,7 @@ ghost use Rattle.braid_fields.specs.declared.reason.Reason.{Reason};
 ghost use Rattle.braid_grammar.specs.Streams.{Completes, IsFault, IsFaultless};
 ghost use Rattle.braid_frame.specs.declared.fed.FrameFault.{FrameFault};
 ghost use Rattle.braid_frame.specs.declared.state.State.{State};
-ghost use Rattle.braid_frame.specs.Goings.{HasFault};
+ghost use Rattle.braid_frame.specs.Phases.{HasFault};
 ghost use Rattle.braid_frame.specs.Framing.{StandsFor, IsOpen, HasFailed};
 
 /// What the updates and the bytes of a framer are. The bytes complete exactly these updates. Where they have a fault

@@ -41,7 +41,7 @@ pub struct Patching {
 
 /// What is being read.
 #[derive(Drop)]
-pub enum Doing {
+pub enum Phase {
     /// A gap between updates, or the lines of an update's head.
     Lines,
     /// A body of so many bytes.
@@ -67,5 +67,5 @@ pub struct State {
     pub line: usize,
     /// What that line may be.
     pub awaits: Awaits,
-    pub doing: Doing,
+    pub phase: Phase,
 }

@@ -4,18 +4,18 @@ ghost use Rattle.std.specs.Prelude.{◌≡◌, true, ℕ, ◌+◌, ◌<◌, ◌�
 ghost use Rattle.braid_change.specs.Updates.{UpdateView};
 ghost use Rattle.braid_fields.specs.Lines.{is_empty_line};
 ghost use Rattle.braid_grammar.specs.Outcomes.{head_limit};
-ghost use Rattle.braid_frame.specs.declared.state.Doing.TheVariants as doings;
+ghost use Rattle.braid_frame.specs.declared.state.Phase.TheVariants as phases;
 ghost use Rattle.braid_frame.specs.declared.state.Awaits.TheVariants as awaited;
 ghost use Rattle.braid_frame.specs.HeadLines.{AreLines, LineEnded};
-ghost use Rattle.braid_frame.specs.Goings.{StandsAs, IsFraming, GoesOnReading, judge_of};
-ghost use Rattle.braid_frame.specs.Steps.{IsInLines, IsInPatchLines, CanStand, ForStand, Finishes, Steps};
+ghost use Rattle.braid_frame.specs.Phases.{StandsAs, IsFraming, IsReading, judge_of};
+ghost use Rattle.braid_frame.specs.Steps.{IsInLines, IsInPatchLines, IsReached, WhereReached, Finishes, Steps};
 
 use crate::contents::{begin_content, begin_update, step_content};
 use crate::ends::{fail, pass_over, refuse, run_out};
 use crate::fed::{Fed, FeedFault};
 use crate::heads::{plan_patch_head, plan_update_head};
 use crate::lines::{Kept, LineIs, judge_line, keep_line};
-use crate::state::{Doing, State};
+use crate::state::{Phase, State};
 use braid_fields::Reason;
 use braid_grammar::HEAD_LIMIT;
 use std::alloc::Global;
@@ -24,41 +24,41 @@ use std::mem;
 /// Takes some of a piece: up to the end of a line, or of what the state asks for.
 pub fn step(alloc: Global, state: &mut State, piece: &[u8]) -> Result<Fed, FeedFault>
     requires framing { IsFraming state.old }
-    requires open_still { GoesOnReading state.old.doing }
+    requires open_still { IsReading state.old.phase }
     requires some { 0 < length piece.now }
     requires room { state.old.at + length state.old.kept.items + length piece.now < 2 ^ 64 }
     requires stands { (us : List UpdateView) × (b : List ℕ)
-        × StandsAs state.old.doing us state.old.at state.old.kept.items b }
+        × StandsAs state.old.phase us state.old.at state.old.kept.items b }
     ensures framing { IsFraming state.new }
     ensures steps { (us : List UpdateView) (b : List ℕ)
-        → StandsAs state.old.doing us state.old.at state.old.kept.items b → Steps us b piece.now result state.new }
+        → StandsAs state.old.phase us state.old.at state.old.kept.items b → Steps us b piece.now result state.new }
 {
-    match &state.doing {
-        Doing::Lines => step_line(alloc, state, piece),
-        Doing::PatchLines(_) => step_line(alloc, state, piece),
-        Doing::Body(_, len) => {
+    match &state.phase {
+        Phase::Lines => step_line(alloc, state, piece),
+        Phase::PatchLines(_) => step_line(alloc, state, piece),
+        Phase::Body(_, len) => {
             let len = *len;
             step_content(alloc, state, len, piece)
         }
-        Doing::PatchContent(_, plan) => {
+        Phase::PatchContent(_, plan) => {
             let len = plan.len;
             step_content(alloc, state, len, piece)
         }
-        Doing::Faulted(fault) => Err(FeedFault::Frame(*fault)),
-        Doing::NoMemory => Err(FeedFault::Memory),
+        Phase::Faulted(fault) => Err(FeedFault::Frame(*fault)),
+        Phase::NoMemory => Err(FeedFault::Memory),
     }
 }
 
-/// Goes on in the line of a head.
+/// Resumes on in the line of a head.
 fn step_line(alloc: Global, state: &mut State, piece: &[u8]) -> Result<Fed, FeedFault>
-    requires lines { IsInLines state.old.doing }
-    requires fine { AreLines (judge_of state.old.doing) state.old.kept.items state.old.line state.old.awaits }
+    requires lines { IsInLines state.old.phase }
+    requires fine { AreLines (judge_of state.old.phase) state.old.kept.items state.old.line state.old.awaits }
     requires short { length state.old.kept.items < head_limit }
     requires some { 0 < length piece.now }
     requires room { state.old.at + length state.old.kept.items + length piece.now < 2 ^ 64 }
-    requires stands { CanStand state.old.doing state.old.at state.old.kept.items }
+    requires stands { IsReached state.old.phase state.old.at state.old.kept.items }
     ensures framing { IsFraming state.new }
-    ensures steps { ForStand state.old.doing state.old.at state.old.kept.items
+    ensures steps { WhereReached state.old.phase state.old.at state.old.kept.items
         (λ us b. Steps us b piece.now result state.new) }
 {
     let Ok(kept) = keep_line(&mut state.kept, piece) else {
@@ -79,15 +79,15 @@ fn step_line(alloc: Global, state: &mut State, piece: &[u8]) -> Result<Fed, Feed
     }
 }
 
-/// Goes on behind a line that has ended.
+/// Resumes on behind a line that has ended.
 fn end_line(alloc: Global, state: &mut State, taken: usize) -> Result<Fed, FeedFault>
-    requires lines { IsInLines state.old.doing }
-    requires ended { LineEnded (judge_of state.old.doing) state.old.kept.items state.old.line state.old.awaits }
+    requires lines { IsInLines state.old.phase }
+    requires ended { LineEnded (judge_of state.old.phase) state.old.kept.items state.old.line state.old.awaits }
     requires short { length state.old.kept.items ≤ head_limit }
     requires room { state.old.at + length state.old.kept.items < 2 ^ 64 }
-    requires stands { CanStand state.old.doing state.old.at state.old.kept.items }
+    requires stands { IsReached state.old.phase state.old.at state.old.kept.items }
     ensures framing { IsFraming state.new }
-    ensures finishes { ForStand state.old.doing state.old.at state.old.kept.items
+    ensures finishes { WhereReached state.old.phase state.old.at state.old.kept.items
         (λ us b. Finishes us b taken result state.new) }
 {
     match judge_line(state.awaits, &state.kept[state.line..]) {
@@ -118,21 +118,21 @@ fn end_line(alloc: Global, state: &mut State, taken: usize) -> Result<Fed, FeedF
     }
 }
 
-/// Goes on behind a head that has ended.
+/// Resumes on behind a head that has ended.
 fn end_head(alloc: Global, state: &mut State, taken: usize) -> Result<Fed, FeedFault>
-    requires lines { IsInLines state.old.doing }
-    requires ended { LineEnded (judge_of state.old.doing) state.old.kept.items state.old.line awaited.MoreFields }
+    requires lines { IsInLines state.old.phase }
+    requires ended { LineEnded (judge_of state.old.phase) state.old.kept.items state.old.line awaited.MoreFields }
     requires short { length state.old.kept.items ≤ head_limit }
     requires empty { is_empty_line (drop state.old.line state.old.kept.items) ≡ true }
     requires room { state.old.at + length state.old.kept.items < 2 ^ 64 }
-    requires stands { CanStand state.old.doing state.old.at state.old.kept.items }
+    requires stands { IsReached state.old.phase state.old.at state.old.kept.items }
     ensures framing { IsFraming state.new }
-    ensures finishes { ForStand state.old.doing state.old.at state.old.kept.items
+    ensures finishes { WhereReached state.old.phase state.old.at state.old.kept.items
         (λ us b. Finishes us b taken result state.new) }
 {
-    match &state.doing {
-        Doing::Lines => end_update_head(alloc, state, taken),
-        Doing::PatchLines(patching) => {
+    match &state.phase {
+        Phase::Lines => end_update_head(alloc, state, taken),
+        Phase::PatchLines(patching) => {
             let used = patching.used;
             let before = patching.before;
             end_patch_head(alloc, state, used, before, taken)
@@ -141,16 +141,16 @@ fn end_head(alloc: Global, state: &mut State, taken: usize) -> Result<Fed, FeedF
     }
 }
 
-/// Goes on behind an update's head that has ended.
+/// Resumes on behind an update's head that has ended.
 fn end_update_head(alloc: Global, state: &mut State, taken: usize) -> Result<Fed, FeedFault>
-    requires doing { state.old.doing ≡ doings.Lines }
-    requires ended { LineEnded (judge_of doings.Lines) state.old.kept.items state.old.line awaited.MoreFields }
+    requires phase { state.old.phase ≡ phases.Lines }
+    requires ended { LineEnded (judge_of phases.Lines) state.old.kept.items state.old.line awaited.MoreFields }
     requires short { length state.old.kept.items ≤ head_limit }
     requires empty { is_empty_line (drop state.old.line state.old.kept.items) ≡ true }
     requires room { state.old.at + length state.old.kept.items < 2 ^ 64 }
-    requires stands { CanStand doings.Lines state.old.at state.old.kept.items }
+    requires stands { IsReached phases.Lines state.old.at state.old.kept.items }
     ensures framing { IsFraming state.new }
-    ensures finishes { ForStand doings.Lines state.old.at state.old.kept.items
+    ensures finishes { WhereReached phases.Lines state.old.at state.old.kept.items
         (λ us b. Finishes us b taken result state.new) }
 {
     match plan_update_head(alloc, &state.kept) {
@@ -162,7 +162,7 @@ fn end_update_head(alloc: Global, state: &mut State, taken: usize) -> Result<Fed
     }
 }
 
-/// Goes on behind a patch's head that has ended.
+/// Resumes on behind a patch's head that has ended.
 fn end_patch_head(
     alloc: Global,
     state: &mut State,
@@ -170,26 +170,26 @@ fn end_patch_head(
     before: u32,
     taken: usize,
 ) -> Result<Fed, FeedFault>
-    requires doing { IsInPatchLines state.old.doing used before }
-    requires ended { LineEnded (judge_of state.old.doing) state.old.kept.items state.old.line awaited.MoreFields }
+    requires phase { IsInPatchLines state.old.phase used before }
+    requires ended { LineEnded (judge_of state.old.phase) state.old.kept.items state.old.line awaited.MoreFields }
     requires short { length state.old.kept.items ≤ head_limit }
     requires empty { is_empty_line (drop state.old.line state.old.kept.items) ≡ true }
     requires room { state.old.at + length state.old.kept.items < 2 ^ 64 }
-    requires stands { CanStand state.old.doing state.old.at state.old.kept.items }
+    requires stands { IsReached state.old.phase state.old.at state.old.kept.items }
     ensures framing { IsFraming state.new }
-    ensures finishes { ForStand state.old.doing state.old.at state.old.kept.items
+    ensures finishes { WhereReached state.old.phase state.old.at state.old.kept.items
         (λ us b. Finishes us b taken result state.new) }
 {
     match plan_patch_head(alloc, used, before, &state.kept) {
         Ok(plan) => {
             pass_over(state);
-            match mem::replace(&mut state.doing, Doing::Lines) {
-                Doing::PatchLines(patching) => {
+            match mem::replace(&mut state.phase, Phase::Lines) {
+                Phase::PatchLines(patching) => {
                     let len = plan.len;
                     begin_content(
                         alloc,
                         state,
-                        Doing::PatchContent(patching, plan),
+                        Phase::PatchContent(patching, plan),
                         len,
                         taken,
                     )

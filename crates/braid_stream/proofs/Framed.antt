@@ -4,7 +4,7 @@ use Rattle.braid_change.specs.Updates.{UpdateView}
 use Rattle.braid_grammar.specs.Streams.{HaveUpdates}
 use Rattle.braid_frame.specs.declared.fed.FrameFault.{FrameFault}
 use Rattle.braid_frame.specs.declared.state.State.{State}
-use Rattle.braid_frame.specs.Goings.{HasFault}
+use Rattle.braid_frame.specs.Phases.{HasFault}
 use Rattle.braid_frame.specs.Framing.{StandsFor, IsOpen, Fails}
 use Rattle.braid_frame.proofs.Meant as meant
 

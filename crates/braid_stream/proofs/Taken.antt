@@ -10,7 +10,7 @@ use Rattle.braid_frame.specs.declared.fed.FrameFault.{FrameFault}
 use Rattle.braid_frame.specs.declared.fed.FeedFault.{FeedFault}
 use Rattle.braid_frame.specs.declared.fed.FeedFault.TheVariants.{Frame}
 use Rattle.braid_frame.specs.declared.state.State.{State}
-use Rattle.braid_frame.specs.Goings.{HasFault}
+use Rattle.braid_frame.specs.Phases.{HasFault}
 use Rattle.braid_frame.specs.Framing.{StandsFor, IsOpen, Takes, Fails, Feeds}
 use Rattle.braid_stream.specs.declared.next.Next.{Next}
 use Rattle.braid_stream.specs.declared.next.Next.TheVariants.{Update, End, Torn, Fault, ReadFault, Spent, Memory}

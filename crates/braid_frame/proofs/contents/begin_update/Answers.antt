@@ -1,7 +1,7 @@
 use Rattle.std.proofs.Common.{refl}
 use Rattle.braid_frame.specs.declared.state.Patching.{Patching}
-use Rattle.braid_frame.specs.declared.state.Doing.TheVariants.{Body, PatchContent}
-use Rattle.braid_frame.specs.Goings.{behind_head, behind_count, resume}
+use Rattle.braid_frame.specs.declared.state.Phase.TheVariants.{Body, PatchContent}
+use Rattle.braid_frame.specs.Phases.{behind_head, behind_count, resume}
 use Rattle.braid_frame.proofs.Resumed.{begun_of, body_asked, one_patch_asked, patches_asked}
 use Rattle.braid_frame.proofs.Stood.{goes_same, goes_stands}
 use Rattle.braid_frame.proofs.contents.begin_update.Goals as goal

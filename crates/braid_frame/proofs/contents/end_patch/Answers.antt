@@ -1,7 +1,7 @@
 use Rattle.std.proofs.Common.{◌∙◌, ap, refl, arith, List, ℕ, ◌≡◌, ◌+◌, ◌-◌}
 use Rattle.braid_frame.specs.declared.state.Patching.{Patching}
-use Rattle.braid_frame.specs.declared.state.Doing.TheVariants.{PatchLines}
-use Rattle.braid_frame.specs.Goings.{behind_patch, resume}
+use Rattle.braid_frame.specs.declared.state.Phase.TheVariants.{PatchLines}
+use Rattle.braid_frame.specs.Phases.{behind_patch, resume}
 use Rattle.braid_frame.proofs.LinesKept.{clean_patch}
 use Rattle.braid_frame.proofs.Resumed.{patch_last, patch_next}
 use Rattle.braid_frame.proofs.Stood.{goes_completed, goes_same, goes_stands, stands_clean}

@@ -1,6 +1,6 @@
 use Rattle.std.proofs.Common.{ℕ, ◌≤◌, ◌-◌, List, ◌++◌, take, length}
 use Rattle.braid_change.specs.Updates.{UpdateView}
-use Rattle.braid_frame.specs.Goings.{IsFraming}
+use Rattle.braid_frame.specs.Phases.{IsFraming}
 use Rattle.braid_frame.specs.Framing.{StandsFor, IsOpen}
 use Rattle.braid_frame.proofs.framer.feed.Given as goal
 

@@ -1,4 +1,4 @@
--- How the bytes after a framer's go on what it keeps.
+-- The phases of a framer: what bytes lead to each, and how what follows is read there.
 use Rattle.std.specs.Prelude.{◌≡◌, ℕ, suc, ◌+◌, ◌<◌, List, ◌∷◌, ◌++◌, length, ◌^◌}
 use Rattle.braid_change.specs.declared.patch.Patch.{Patch}
 use Rattle.braid_change.specs.declared.change.Change.TheVariants.{Body as BodyOf, Patches}
@@ -12,8 +12,8 @@ use Rattle.braid_frame.specs.declared.fed.FrameFault.{FrameFault}
 use Rattle.braid_frame.specs.declared.state.Awaits.{Awaits}
 use Rattle.braid_frame.specs.declared.state.Begun.{Begun}
 use Rattle.braid_frame.specs.declared.state.Patching.{Patching}
-use Rattle.braid_frame.specs.declared.state.Doing.{Doing}
-use Rattle.braid_frame.specs.declared.state.Doing.TheVariants.{Lines, Body, PatchLines, PatchContent, Faulted, NoMemory}
+use Rattle.braid_frame.specs.declared.state.Phase.{Phase}
+use Rattle.braid_frame.specs.declared.state.Phase.TheVariants.{Lines, Body, PatchLines, PatchContent, Faulted, NoMemory}
 use Rattle.braid_frame.specs.declared.state.State.{State}
 use Rattle.braid_frame.specs.HeadLines.{AreLines, BeginsWithLine}
 
@@ -44,7 +44,7 @@ abbrev pub behind_count : Begun → ℕ → ℕ → List ℕ → Outcome UpdateV
 behind_count begun count at bytes = then_read (patches_at count 0 0 at bytes) (λ patches last end. Whole (patches_update begun patches) last end)
 
 -- what bytes say of the update in hand: `at` is the place of the first of them, which is the first that is kept
-abbrev pub resume : Doing → ℕ → List ℕ → Outcome UpdateView
+abbrev pub resume : Phase → ℕ → List ℕ → Outcome UpdateView
 resume Lines at bytes = next_at at bytes
 resume (Body begun len) at bytes = then_read (content_at len at bytes) (λ text last end. Whole (body_update begun text) last end)
 resume (PatchLines p) at bytes = then_read (patches_at (suc p.left) p.used p.before at bytes) (λ patches last end. with_patches p patches last end)
@@ -53,64 +53,51 @@ resume (Faulted f) at bytes = Bad f.at f.reason
 resume NoMemory at bytes = Part
 
 -- between updates all that is left over is kept; else it begins with a line of the update's head
-abbrev pub IsLeft : Doing → List ℕ → List ℕ → Type 0
+abbrev pub IsLeft : Phase → List ℕ → List ℕ → Type 0
 IsLeft Lines kept rest = rest ≡ kept
-IsLeft (Body begun len) kept rest = BeginsWithLine rest
-IsLeft (PatchLines p) kept rest = BeginsWithLine rest
-IsLeft (PatchContent p plan) kept rest = BeginsWithLine rest
 IsLeft (Faulted f) kept rest = ⊥
 IsLeft NoMemory kept rest = ⊥
+IsLeft _ kept rest = BeginsWithLine rest
 
--- the bytes are a stream of these updates and what is left over, and with whatever follows they go on as what is kept
-pub record Stands (us : List UpdateView) (doing : Doing) (at : ℕ) (kept bytes : List ℕ) : Type 0 where
+-- bytes lead to a phase: they are a stream of these updates and what is left over, and with whatever follows they go on as what is kept
+pub record LeadsTo (us : List UpdateView) (phase : Phase) (at : ℕ) (kept bytes : List ℕ) : Type 0 where
   pub front : List ℕ
   pub rest : List ℕ
   pub stream : IsStream us front
   pub spelled : bytes ≡ front ++ rest
   pub place : at + length kept ≡ length bytes
-  pub goes_on : (more : List ℕ) → next_at (length front) (rest ++ more) ≡ resume doing at (kept ++ more)
-  pub left : IsLeft doing kept rest
+  pub goes_on : (more : List ℕ) → next_at (length front) (rest ++ more) ≡ resume phase at (kept ++ more)
+  pub left : IsLeft phase kept rest
 
 -- behind these updates the bytes have this fault
 abbrev pub HasFault : List UpdateView → List ℕ → FrameFault → Type 0
 HasFault us bytes f = (fault : IsFault bytes f.at f.reason) × (fault.updates ≡ us)
 
--- a framer in this state was fed bytes that complete these updates. Nothing is said of one that had no memory
-abbrev pub StandsAs : Doing → List UpdateView → ℕ → List ℕ → List ℕ → Type 0
-StandsAs Lines us at kept bytes = Stands us Lines at kept bytes
-StandsAs (Body begun len) us at kept bytes = Stands us (Body begun len) at kept bytes
-StandsAs (PatchLines p) us at kept bytes = Stands us (PatchLines p) at kept bytes
-StandsAs (PatchContent p plan) us at kept bytes = Stands us (PatchContent p plan) at kept bytes
+-- a framer in this phase was fed bytes that complete these updates. Nothing is said of one that had no memory
+abbrev pub StandsAs : Phase → List UpdateView → ℕ → List ℕ → List ℕ → Type 0
 StandsAs (Faulted f) us at kept bytes = HasFault us bytes f
 StandsAs NoMemory us at kept bytes = ⊥
+StandsAs phase us at kept bytes = LeadsTo us phase at kept bytes
 
--- what lines say of the head that is being read
-abbrev pub judge_of : Doing → List (List ℕ) → Verdict
-judge_of Lines ls = head_of ls
-judge_of (Body begun len) ls = head_of ls
+-- what lines say of the head that is being read: a patch's, else an update's
+abbrev pub judge_of : Phase → List (List ℕ) → Verdict
 judge_of (PatchLines p) ls = some_fields_of ls
-judge_of (PatchContent p plan) ls = head_of ls
-judge_of (Faulted f) ls = head_of ls
-judge_of NoMemory ls = head_of ls
+judge_of _ ls = head_of ls
 
 -- what is kept is not yet whole, and nothing is wrong with it
-abbrev pub IsInHand : Doing → List ℕ → ℕ → Awaits → Type 0
+abbrev pub IsInHand : Phase → List ℕ → ℕ → Awaits → Type 0
 IsInHand Lines kept line awaits = AreLines head_of kept line awaits × (length kept < head_limit)
 IsInHand (Body begun len) kept line awaits = length kept < len
 IsInHand (PatchLines p) kept line awaits = AreLines some_fields_of kept line awaits × (length kept < head_limit)
 IsInHand (PatchContent p plan) kept line awaits = (length kept < plan.len) × (p.used + plan.len < 2 ^ 32)
-IsInHand (Faulted f) kept line awaits = Unit {0}
-IsInHand NoMemory kept line awaits = Unit {0}
+IsInHand _ kept line awaits = Unit {0}
 
 -- what is true of every framer's state
 abbrev pub IsFraming : State → Type 0
-IsFraming s = IsInHand s.doing s.kept.items s.line s.awaits
+IsFraming s = IsInHand s.phase s.kept.items s.line s.awaits
 
 -- it has answered no fault and no want of memory
-abbrev pub GoesOnReading : Doing → Type 0
-GoesOnReading Lines = Unit {0}
-GoesOnReading (Body begun len) = Unit {0}
-GoesOnReading (PatchLines p) = Unit {0}
-GoesOnReading (PatchContent p plan) = Unit {0}
-GoesOnReading (Faulted f) = ⊥
-GoesOnReading NoMemory = ⊥
+abbrev pub IsReading : Phase → Type 0
+IsReading (Faulted f) = ⊥
+IsReading NoMemory = ⊥
+IsReading _ = Unit {0}
