@@ -6,6 +6,8 @@ pub mod Past
 pub mod Cuts
 pub mod Pieces
 pub mod Written
+pub mod Outlets
+pub mod Short
 pub mod Read
 pub mod Departures
 pub mod OneRange

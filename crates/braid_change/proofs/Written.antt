@@ -8,7 +8,7 @@ use Rattle.std.proofs.lemmas.Bool.Decides.{nat_tests}
 use Rattle.std.proofs.lemmas.Str.{encodes-append}
 use Rattle.braid_ids.specs.Identifiers.{spelled_id}
 use Rattle.braid_change.specs.Changes.{patches_content}
-use Rattle.braid_change.specs.Spellings.{parents_text, patch_text}
+use Rattle.braid_change.specs.Spellings.{parents_text}
 use Rattle.braid_change.specs.Texts.{PutsFront}
 use Rattle.braid_change.specs.declared.patch.Patch.{Patch}
 
@@ -21,10 +21,17 @@ encoded_more before old new items piece i c l e o p n =
     let coded : encode_utf8_all (take (i + 1) items) ≡ encode_utf8_all (take i items) ++ encode_utf8 c = ap encode_utf8_all (taken_more items i c l e) ∙ encodes-append (take i items) (c ∷ []) ∙ ap (λ z. encode_utf8_all (take i items) ++ z) (append-nil (encode_utf8 c)) in
     n ∙ ap (λ z. old ++ z) p ∙ ap (λ z. z ++ encode_utf8 c) o ∙ append_assoc before (encode_utf8_all (take i items)) (encode_utf8 c) ∙ ap (λ z. before ++ z) (sym coded)
 
-pub patches_more : (before old new : List ℕ) (patches : List Patch) (i : ℕ) (p : Patch) → i < length patches → p ≡ get_or patches i p → old ≡ before ++ flat_map patch_text (take i patches) → new ≡ old ++ patch_text p → new ≡ before ++ flat_map patch_text (take (i + 1) patches)
-patches_more before old new patches i p l e o n =
-    let more : flat_map patch_text (take (i + 1) patches) ≡ flat_map patch_text (take i patches) ++ patch_text p = ap (flat_map patch_text) (taken_more patches i p l e) ∙ flat_map-append patch_text (take i patches) (p ∷ []) ∙ ap (λ z. flat_map patch_text (take i patches) ++ z) (append-nil (patch_text p)) in
-    n ∙ ap (λ z. z ++ patch_text p) o ∙ append_assoc before (flat_map patch_text (take i patches)) (patch_text p) ∙ ap (λ z. before ++ z) (sym more)
+-- one more item, and what it is spelled as
+pub mapped_more : {X : Type 0} (f : X → List ℕ) (xs : List X) (n : ℕ) (x : X) → n < length xs → x ≡ get_or xs n x → flat_map f (take n xs) ++ f x ≡ flat_map f (take (n + 1) xs)
+mapped_more f xs n x l e = sym (ap (flat_map f) (taken_more xs n x l e) ∙ flat_map-append f (take n xs) (x ∷ []) ∙ ap (λ z. flat_map f (take n xs) ++ z) (append-nil (f x)))
+
+-- the same of an item at its place
+pub mapped_at : {X : Type 0} (f : X → List ℕ) (xs : List X) (n : ℕ) (d : X) → n < length xs → flat_map f (take n xs) ++ f (get_or xs n d) ≡ flat_map f (take (n + 1) xs)
+mapped_at f xs n d l = sym (ap (flat_map f) (take_more xs n d l) ∙ flat_map-append f (take n xs) (get_or xs n d ∷ []) ∙ ap (λ z. flat_map f (take n xs) ++ z) (append-nil (f (get_or xs n d))))
+
+-- one more character, and its UTF-8
+pub encoded_next : (items : List ℕ) (i c : ℕ) → i < length items → c ≡ get_or items i c → encode_utf8_all (take i items) ++ encode_utf8 c ≡ encode_utf8_all (take (i + 1) items)
+encoded_next items i c l e = sym (ap encode_utf8_all (taken_more items i c l e) ∙ encodes-append (take i items) (c ∷ []) ∙ ap (λ z. encode_utf8_all (take i items) ++ z) (append-nil (encode_utf8 c)))
 
 -- no text of a patch is longer than all together
 pub part_short : (patches : List Patch) (i : ℕ) (p : Patch) → i < length patches → p ≡ get_or patches i p → length (patches_content patches) < 2 ^ 64 → length (encode_utf8_all p.text) < 2 ^ 64
@@ -46,25 +53,21 @@ next_parent (x ∷ ids) id =
     not_none : (n : ℕ) → suc n == 0 ≡ false
     not_none n = grind (arith, nat_tests)
 
-pub parents_more : (before old one two gap : List ℕ) (parents : List (List ℕ)) (n : ℕ) (id : List ℕ) → Some id ≡ slice_get parents n → old ≡ before ++ parents_text (take n parents) → gap ≡ cond (n == 0) (codes " ") (codes ", ") → one ≡ old ++ gap → two ≡ one ++ spelled_id id
-    → two ≡ before ++ parents_text (take (n + 1) parents)
-parents_more before old one two gap parents n id e o g a b =
+-- one more parent, behind what stands between
+pub parents_next : (parents : List (List ℕ)) (n : ℕ) (id gap : List ℕ) → Some id ≡ slice_get parents n → gap ≡ cond (n == 0) (codes " ") (codes ", ") → (parents_text (take n parents) ++ gap) ++ spelled_id id ≡ parents_text (take (n + 1) parents)
+parents_next parents n id gap e g =
     let l : n < length parents = slice_get_within parents n id (sym e) in
     let i : id ≡ get_or parents n id = sym (get_or_from_slice_get parents n id id (sym e)) in
     let len : length (take n parents) ≡ n = length-take-le n parents (omega (arith, l)) in
     let gap_is : gap ≡ cond (length (take n parents) == 0) (codes " ") (codes ", ") = g ∙ ap (λ k. cond (k == 0) (codes " ") (codes ", ")) (sym len) in
-    b ∙ ap (λ z. z ++ spelled_id id) (a ∙ ap (λ z. old ++ z) gap_is ∙ ap (λ z. z ++ cond (length (take n parents) == 0) (codes " ") (codes ", ")) o)
-    ∙ append_assoc (before ++ parents_text (take n parents)) (cond (length (take n parents) == 0) (codes " ") (codes ", ")) (spelled_id id) ∙ append_assoc before (parents_text (take n parents)) _
-    ∙ ap (λ z. before ++ z) (sym (ap parents_text (taken_more parents n id l i) ∙ next_parent (take n parents) id))
+    ap (λ z. (parents_text (take n parents) ++ z) ++ spelled_id id) gap_is
+    ∙ append_assoc (parents_text (take n parents)) (cond (length (take n parents) == 0) (codes " ") (codes ", ")) (spelled_id id)
+    ∙ sym (ap parents_text (taken_more parents n id l i) ∙ next_parent (take n parents) id)
 
 -- a place within a list has an item
 pub none_within : {X : Type 0} (xs : List X) (n : ℕ) → None ≡ slice_get xs n → n < length xs → ⊥
 none_within [] n e l = absurd (omega arith)
 none_within (x ∷ xs) n e l = none-some (get_or (x ∷ xs) n x) (e ∙ slice_get-get_or (x ∷ xs) n x l)
-
--- pieces that are written one after the other
-pub three : (old one two new a b c : List ℕ) → one ≡ old ++ a → two ≡ one ++ b → new ≡ two ++ c → new ≡ old ++ (a ++ (b ++ c))
-three old one two new a b c p q r = r ∙ ap (λ z. z ++ c) (q ∙ ap (λ z. z ++ b) p) ∙ append_assoc (old ++ a) b c ∙ append_assoc old a (b ++ c)
 
 -- what was put before a push that failed is a front of the whole
 pub front_put : (before old new items : List ℕ) (i : ℕ) → old ≡ before ++ encode_utf8_all (take i items) → new ≡ old → PutsFront (encode_utf8_all items) before new

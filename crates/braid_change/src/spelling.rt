@@ -1,13 +1,15 @@
-ghost use Rattle.std.specs.Prelude.{◌≡◌, ◌==◌, ◌≤◌, ◌<◌, ◌++◌, ◌^◌, length, codes, decimal, flat_map, if◌then◌else◌, encode_utf8_all, IfOk, OnOk};
-ghost use Rattle.braid_ids.specs.Identifiers.{spelled_id};
+ghost use Rattle.std.specs.Prelude.{◌≡◌, ◌==◌, ◌<◌, ◌^◌, length, codes, decimal, flat_map, if◌then◌else◌, encode_utf8_all, IfOk};
+ghost use Rattle.braid_ids.specs.Identifiers.{spelled_id, escaped};
 ghost use Rattle.braid_change.specs.Changes.{content_len, patches_content};
 ghost use Rattle.braid_change.specs.Spellings.{canonical, parents_text, length_text, content_text, range_text, patch_text, change_text};
 
 use crate::change::Change;
+use crate::outlet::{Counted, Grown, Outlet};
 use crate::patch::Patch;
 use crate::text::Text;
 use crate::update::Update;
 use braid_ids::{Bytes, Frontier, Id, Memory};
+use itoa::Buffer;
 use std::alloc::Global;
 
 /// The empty line that ends an update.
@@ -20,36 +22,68 @@ const LAST_LINE: &[u8] = b"\r\n";
 pub fn canon(alloc: Global, update: &Update) -> Result<Bytes, Memory>
     ensures ok { IfOk result (λ bytes. bytes ≡ canonical update.now) }
 {
-    let mut out = Bytes::of(alloc, b"Version: ")?;
-    push_id(alloc, &mut out, update.id())?;
-    out.push(b"\r\nParents:")?;
-    push_parents(alloc, &mut out, update.parents())?;
-    out.push(b"\r\n")?;
-    push_change(&mut out, update.change())?;
-    out.push(LAST_LINE)?;
-    Ok(out)
+    let mut out = Grown::new(alloc)?;
+    spell(update, &mut out);
+    out.bytes()
 }
 
-/// Puts an identifier as a String at the end.
-fn push_id(alloc: Global, out: &mut Bytes, id: &Id) -> Result<(), Memory>
-    ensures ok { OnOk result (out.new ≡ out.old ++ spelled_id id.now) }
+/// The number of bytes of the canonical spelling of an update. It takes no memory.
+pub fn canon_len(update: &Update) -> u64
+    ensures len { result ≡ length (canonical update.now) }
 {
-    let spelled = id.spell(alloc)?;
-    out.push(spelled.get())
+    // Of every update at hand its type says that its spelling is short.
+    update.id();
+    let mut out = Counted::new();
+    spell(update, &mut out);
+    out.bytes()
 }
 
-/// Puts what follows `Parents:` at the end.
-fn push_parents(alloc: Global, out: &mut Bytes, parents: &Frontier) -> Result<(), Memory>
-    ensures ok { OnOk result (out.new ≡ out.old ++ parents_text parents.now) }
+/// Puts the canonical spelling of an update, as `canon` gives it. It takes no memory but what the outlet takes.
+pub fn spell<O: Outlet>(update: &Update, out: &mut O)
+    ensures puts { O.puts (canonical update.now) out.old out.new }
+{
+    out.put(b"Version: ");
+    put_id(update.id(), out);
+    out.put(b"\r\nParents:");
+    put_parents(update.parents(), out);
+    out.put(b"\r\n");
+    put_change(update.change(), out);
+    out.put(LAST_LINE);
+}
+
+/// Puts an identifier as a String.
+fn put_id<O: Outlet>(id: &Id, out: &mut O)
+    ensures puts { O.puts (spelled_id id.now) out.old out.new }
+{
+    out.put(b"\"");
+    for byte in id.bytes() {
+        put_escaped(*byte, out);
+    }
+    out.put(b"\"");
+}
+
+/// Puts a byte within quotes: a quote and a backslash have a backslash before them.
+fn put_escaped<O: Outlet>(byte: u8, out: &mut O)
+    ensures puts { O.puts (escaped byte) out.old out.new }
+{
+    if byte == b'"' || byte == b'\\' {
+        out.put(&[b'\\', byte]);
+    } else {
+        out.put(&[byte]);
+    }
+}
+
+/// Puts what follows `Parents:`.
+fn put_parents<O: Outlet>(parents: &Frontier, out: &mut O)
+    ensures puts { O.puts (parents_text parents.now) out.old out.new }
 {
     for n in 0..parents.len() {
         let Some(id) = parents.get(n) else {
             break;
         };
-        out.push(gap_before(n))?;
-        push_id(alloc, out, id)?;
+        out.put(gap_before(n));
+        put_id(id, out);
     }
-    Ok(())
 }
 
 /// What stands before a member of a list.
@@ -59,72 +93,89 @@ fn gap_before(n: u32) -> &'static [u8]
     if n == 0 { b" " } else { b", " }
 }
 
-/// Puts what a change is spelled as at the end.
-fn push_change(out: &mut Bytes, change: &Change) -> Result<(), Memory>
+/// Puts what a change is spelled as.
+fn put_change<O: Outlet>(change: &Change, out: &mut O)
     requires short { content_len change.now < 2 ^ 64 }
-    ensures ok { OnOk result (out.new ≡ out.old ++ change_text change.now) }
+    ensures puts { O.puts (change_text change.now) out.old out.new }
 {
     match change {
         Change::Body(text) => {
-            push_length(out, text)?;
-            push_content(out, text)
+            put_length(text, out);
+            put_content(text, out);
         }
         Change::Patches(patches) => {
-            out.push(b"Patches: ")?;
-            out.push_number(patches.get().len() as u64)?;
-            out.push(b"\r\n\r\n")?;
-            push_patches(out, patches.get())
+            out.put(b"Patches: ");
+            put_number(patches.get().len() as u64, out);
+            out.put(b"\r\n\r\n");
+            put_patches(patches.get(), out);
         }
     }
 }
 
-/// Puts patches at the end, in their order.
-fn push_patches(out: &mut Bytes, patches: &[Patch]) -> Result<(), Memory>
+/// Puts patches, in their order.
+fn put_patches<O: Outlet>(patches: &[Patch], out: &mut O)
     requires short { length (patches_content patches.now) < 2 ^ 64 }
-    ensures ok { OnOk result (out.new ≡ out.old ++ flat_map patch_text patches.now) }
+    ensures puts { O.puts (flat_map patch_text patches.now) out.old out.new }
 {
     for patch in patches {
-        push_patch(out, patch)?;
+        put_patch(patch, out);
     }
-    Ok(())
 }
 
-/// Puts a patch at the end: its length, its range and its content.
-fn push_patch(out: &mut Bytes, patch: &Patch) -> Result<(), Memory>
+/// Puts a patch: its length, its range and its content.
+fn put_patch<O: Outlet>(patch: &Patch, out: &mut O)
     requires short { length (encode_utf8_all patch.now.text) < 2 ^ 64 }
-    ensures ok { OnOk result (out.new ≡ out.old ++ patch_text patch.now) }
+    ensures puts { O.puts (patch_text patch.now) out.old out.new }
 {
-    push_length(out, &patch.text)?;
-    out.push(b"\r\nContent-Range: ")?;
-    push_range(out, patch.start, patch.end)?;
-    push_content(out, &patch.text)
+    put_length(&patch.text, out);
+    out.put(b"\r\nContent-Range: ");
+    put_range(patch.start, patch.end, out);
+    put_content(&patch.text, out);
 }
 
-/// Puts a range at the end.
-fn push_range(out: &mut Bytes, start: u32, end: u32) -> Result<(), Memory>
-    ensures ok { OnOk result (out.new ≡ out.old ++ range_text start end) }
+/// Puts a range.
+fn put_range<O: Outlet>(start: u32, end: u32, out: &mut O)
+    ensures puts { O.puts (range_text start end) out.old out.new }
 {
-    out.push(b"text [")?;
-    out.push_number(start as u64)?;
-    out.push(b":")?;
-    out.push_number(end as u64)?;
-    out.push(b"]")
+    out.put(b"text [");
+    put_number(start as u64, out);
+    out.put(b":");
+    put_number(end as u64, out);
+    out.put(b"]");
 }
 
-/// Puts the line of a text's length at the end, without the line's end.
-fn push_length(out: &mut Bytes, text: &Text) -> Result<(), Memory>
+/// Puts the line of a text's length, without the line's end.
+fn put_length<O: Outlet>(text: &Text, out: &mut O)
     requires short { length (encode_utf8_all text.now) < 2 ^ 64 }
-    ensures ok { OnOk result (out.new ≡ out.old ++ length_text text.now) }
+    ensures puts { O.puts (length_text text.now) out.old out.new }
 {
-    out.push(b"Content-Length: ")?;
-    out.push_number(text.utf8_len())
+    out.put(b"Content-Length: ");
+    put_number(text.utf8_len(), out);
 }
 
-/// Puts a text at the end, behind an empty line.
-fn push_content(out: &mut Bytes, text: &Text) -> Result<(), Memory>
-    ensures ok { OnOk result (out.new ≡ out.old ++ content_text text.now) }
+/// Puts a text, behind an empty line.
+fn put_content<O: Outlet>(text: &Text, out: &mut O)
+    ensures puts { O.puts (content_text text.now) out.old out.new }
 {
-    out.push(b"\r\n\r\n")?;
-    text.push_to(out)?;
-    out.push(b"\r\n")
+    out.put(b"\r\n\r\n");
+    put_text(text, out);
+    out.put(b"\r\n");
+}
+
+/// Puts the UTF-8 of a text.
+fn put_text<O: Outlet>(text: &Text, out: &mut O)
+    ensures puts { O.puts (encode_utf8_all text.now) out.old out.new }
+{
+    for c in text.chars() {
+        let mut buffer = [0; 4];
+        out.put(c.encode_utf8(&mut buffer).as_bytes());
+    }
+}
+
+/// Puts a number in decimal, without leading zeros.
+fn put_number<O: Outlet>(n: u64, out: &mut O)
+    ensures puts { O.puts (decimal n) out.old out.new }
+{
+    let mut buffer = Buffer::new();
+    out.put(buffer.format(n).as_bytes());
 }

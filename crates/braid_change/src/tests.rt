@@ -279,8 +279,11 @@ const QUOTED_SPELLING: &[u8] =
 
 /// Whether an update is spelled so, in so many bytes.
 fn is_spelled(alloc: Global, update: Option<Update>, spelling: &[u8], len: usize) -> Option<bool> {
-    let spelled = canon(alloc, &update?).ok()?;
-    Some(spelled.get().len() == len && spelled.get() == spelling)
+    let update = update?;
+    let spelled = canon(alloc, &update).ok()?;
+    Some(
+        canon_len(&update) == len as u64 && spelled.get().len() == len && spelled.get() == spelling,
+    )
 }
 
 #[test]

@@ -1,6 +1,0 @@
-use Rattle.std.proofs.Common.{◌≡◌, ◌++◌, take}
-use Rattle.braid_change.specs.Spellings.{parents_text}
-use Rattle.braid_change.proofs.spelling.push_parents.Given as goal
-
-abbrev pub invariant-loop-n : goal.invariant-loop-n
-invariant-loop-n l = l.out ≡ l.fn.out ++ parents_text (take l.n l.parents)

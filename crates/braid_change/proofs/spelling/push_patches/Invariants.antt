@@ -1,6 +1,0 @@
-use Rattle.std.proofs.Common.{◌≡◌, ◌++◌, take, flat_map}
-use Rattle.braid_change.specs.Spellings.{patch_text}
-use Rattle.braid_change.proofs.spelling.push_patches.Given as goal
-
-abbrev pub invariant-loop-patch : goal.invariant-loop-patch
-invariant-loop-patch l = l.out ≡ l.fn.out ++ flat_map patch_text (take l.patch-index l.patches)
