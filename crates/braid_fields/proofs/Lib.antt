@@ -14,3 +14,4 @@ pub mod ContentRows
 pub mod PlanLimits
 pub mod CanonicalLines
 pub mod CanonicalHeads
+pub mod Hexadecimal

@@ -11,3 +11,4 @@ pub mod Limits
 pub mod Reasons
 pub mod Places
 pub mod Canonical
+pub mod Chunks

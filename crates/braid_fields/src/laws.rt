@@ -22,6 +22,7 @@ ghost use Rattle.braid_fields.specs.Values.{SpellsStrings, strings_in_value, cou
 ghost use Rattle.braid_fields.specs.Table.{judge_head, judge_put, judge_patch};
 ghost use Rattle.braid_fields.specs.Canonical.{version_line, parents_line, patches_line, length_line, range_line, head_fields, patch_fields, update_plan, plan_of_patch};
 ghost use Rattle.braid_fields.specs.Limits.{IsPlanWithin, IsPatchWithin};
+ghost use Rattle.braid_fields.specs.Chunks.{IsWrittenChunk, chunk, beat};
 
 /// The test of empty lines passes exactly the two ends of a line.
 pub fn empty_lines()
@@ -89,4 +90,12 @@ pub fn canonical_heads()
     ensures patch { (used before : ℕ) (p : Patch) → before ≤ p.start → p.start ≤ p.end → p.end < 2 ^ 32
         → used + length (encode_utf8_all p.text) ≤ 1_048_576
         → judge_patch used before (patch_fields p) ≡ Ok (plan_of_patch p) }
+{}
+
+/// A chunk as it is written has the size of its data in lower-case hexadecimal digits without leading zeros, at most 16 of
+/// them, CRLF, the data and CRLF. A beat is the chunk of an empty line.
+pub fn chunks_are_written()
+    ensures written { (content : List ℕ) → 0 < length content → length content < 2 ^ 64
+        → IsWrittenChunk content (chunk content) }
+    ensures beats { beat ≡ chunk (codes "\r\n") }
 {}

@@ -6,7 +6,8 @@ use Rattle.std.specs.Int.{is_in_range}
 use Rattle.httparse.specs.Grammar.{print_chunk_line}
 use Rattle.braid_ids.specs.Lists.{Lacks}
 use Rattle.braid_http.specs.Chunks.{Announces, Chunk, IsChunk, print_chunk, chunk_data, last}
-use Rattle.braid_http.specs.WrittenChunks.{IsHexDigit, IsHexadecimal, AreWrittenChunks, last_chunk, WritesChunked}
+use Rattle.braid_fields.specs.Chunks.{IsHexDigit, IsHexadecimal, AreWrittenChunks, last_chunk}
+use Rattle.braid_http.specs.WrittenChunks.{WritesChunked}
 use Rattle.braid_http.proofs.LineLaws.{not_true}
 
 or_more : (a u b : Bool) → IsTrue (a || b) → IsTrue ((a || u) || b)
