@@ -7,3 +7,4 @@ pub mod Meant
 pub mod Finished
 pub mod HeadEnds
 pub mod Feeding
+pub mod Buffers

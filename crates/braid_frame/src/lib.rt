@@ -12,6 +12,7 @@
 //! else; want of memory is answered as such, and nothing is said of such a framer but that it answers so for good.
 #![tactic(auto)]
 
+mod buffered;
 mod contents;
 mod ends;
 mod fed;
@@ -19,12 +20,14 @@ mod framer;
 mod heads;
 pub mod laws;
 mod lines;
+mod pending;
 mod state;
 mod steps;
 mod writing;
 
 pub use braid_fields::{Parts, Reason};
 pub use braid_grammar::{PutFault, read_put};
+pub use buffered::Buffered;
 pub use fed::{Fed, FeedFault, FrameFault};
 pub use framer::Framer;
 pub use writing::write_update;

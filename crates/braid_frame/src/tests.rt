@@ -353,7 +353,7 @@ fn an_update_is_written_in_its_canonical_spelling(rt: HostRuntime) -> Result<(),
     ];
     for (room, end, written) in rows {
         let mut sink = MemSink::new(alloc, room, Vec::new(alloc))?;
-        assert_eq!(rt; write_update(alloc, &update, &mut sink), end);
+        assert_eq!(rt; write_update(&update, &mut sink), end);
         assert!(rt; sink.written() == written);
     }
     Ok(())

@@ -3,30 +3,29 @@
 ghost use Rattle.std.specs.Prelude.{◌≡◌, [], ◌∷◌, OnOk, IfErr};
 ghost use Rattle.braid_change.specs.Spellings.{canonical};
 ghost use Rattle.braid_grammar.specs.Streams.{IsStream};
-ghost use Rattle.braid_io.specs.Outside.{WritesAll};
-ghost use Rattle.braid_frame.specs.Writings.{EndsWriting};
+ghost use Rattle.braid_io.specs.Outside.{WritesAll, WritesPart};
 
-use braid_change::{Update, canon};
+use crate::buffered::Buffered;
+use braid_change::{Update, spell};
 use braid_grammar::laws::canonical_is_read;
-use braid_io::{Sink, WriteEnd, write_all};
-use std::alloc::Global;
+use braid_io::{Sink, WriteEnd};
 
-/// Writes the canonical spelling of an update, which is a stream of this one update.
+/// Writes the canonical spelling of an update, which is a stream of this one update. It takes no memory: the spelling
+/// goes through a buffer of 8,192 bytes.
 ///
 /// Errors: `WriteFault` at the first write that fails, where the sink's count of faults rose; a front of the spelling
-/// was then written. `Memory` where there was none for the spelling; nothing was then written.
-pub fn write_update<S: Sink>(alloc: Global, update: &Update, sink: &mut S) -> Result<(), WriteEnd>
+/// was then written. It never answers `Memory`.
+pub fn write_update<S: Sink>(update: &Update, sink: &mut S) -> Result<(), WriteEnd>
     ensures ok { OnOk result (WritesAll (canonical update.now) (S.outflow sink.old) (S.outflow sink.new)) }
     ensures stream { IsStream (update.now ∷ []) (canonical update.now) }
-    ensures err { IfErr result (λ end. EndsWriting (canonical update.now) (S.outflow sink.old)
-        (S.outflow sink.new) end) }
+    ensures err { IfErr result (λ end. (end ≡ WriteEnd.WriteFault)
+        × WritesPart (canonical update.now) (S.outflow sink.old) (S.outflow sink.new)) }
     ensures kept { S.beside_writes sink.new ≡ S.beside_writes sink.old }
 {
     // Of every update at hand its type says that the law on spellings holds of it.
     update.id();
     canonical_is_read();
-    let Ok(spelling) = canon(alloc, update) else {
-        return Err(WriteEnd::Memory);
-    };
-    write_all(spelling.get(), sink)
+    let mut out = Buffered::new(sink);
+    spell(update, &mut out);
+    out.end()
 }
