@@ -68,13 +68,14 @@ IsCause us more bytes before after Spent =
     Moves more before after × HaveUpdates us bytes × (length bytes ≡ most_bytes)
 IsCause us more bytes before after Memory = Moves more before after × (length bytes ≤ most_bytes)
 
--- what an answer leaves: after an update, or a failed read, the reader goes on; after any other it has ended with it
+-- what an answer leaves: after an update, or a failed read, the reader goes on, and holds nothing after the latter; after
+-- any other answer it has ended with it
 abbrev pub Leaves : List UpdateView → List ℕ → Next → Reading → Type 0
 Leaves us bytes (Update u) new = GoesOn new × HasTaken (us ++ u ∷ []) new bytes
 Leaves us bytes End new = HasEnded new End
 Leaves us bytes (Torn at) new = HasEnded new (Torn at)
 Leaves us bytes (Fault f) new = HasEnded new (Fault f)
-Leaves us bytes ReadFault new = GoesOn new × HasTaken us new bytes
+Leaves us bytes ReadFault new = GoesOn new × HasTaken us new bytes × (new.held ≡ [])
 Leaves us bytes Spent new = HasEnded new Spent
 Leaves us bytes Memory new = HasEnded new Memory
 

@@ -16,11 +16,15 @@ pub mod laws;
 mod next;
 mod reading;
 mod stream_reader;
+mod stream_writer;
 mod update_reader;
 
 pub use next::Next;
 pub use stream_reader::StreamReader;
+pub use stream_writer::StreamWriter;
 pub use update_reader::UpdateReader;
 
 #[cfg(test)]
 mod tests;
+#[cfg(test)]
+mod writer_tests;

@@ -18,4 +18,4 @@ pub returns-in-Failed-clause-fills : goal.returns-in-Failed-clause-fills
 returns-in-Failed-clause-fills g c us bytes h =
     let f = c.in-Failed.ensures.fills in
     let short : length bytes < most_bytes = let n = h.count in omega (arith, c.if-most-eq0.false) in
-    ((f.1, all_updates us c.args.self.now bytes c.requires.fed h, short), (c.requires.going, none_more us c.args.self.now c.fill.new.self bytes h c.requires.fed f.0))
+    ((f.1, all_updates us c.args.self.now bytes c.requires.fed h, short), (c.requires.going, none_more us c.args.self.now c.fill.new.self bytes h c.requires.fed f.0, f.0))
