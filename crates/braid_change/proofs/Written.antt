@@ -64,6 +64,12 @@ parents_next parents n id gap e g =
     ∙ append_assoc (parents_text (take n parents)) (cond (length (take n parents) == 0) (codes " ") (codes ", ")) (spelled_id id)
     ∙ sym (ap parents_text (taken_more parents n id l i) ∙ next_parent (take n parents) id)
 
+pub parents_more : (before old one two gap : List ℕ) (parents : List (List ℕ)) (n : ℕ) (id : List ℕ) → Some id ≡ slice_get parents n → old ≡ before ++ parents_text (take n parents) → gap ≡ cond (n == 0) (codes " ") (codes ", ") → one ≡ old ++ gap → two ≡ one ++ spelled_id id
+    → two ≡ before ++ parents_text (take (n + 1) parents)
+parents_more before old one two gap parents n id e o g a b =
+    b ∙ ap (λ z. z ++ spelled_id id) (a ∙ ap (λ z. z ++ gap) o) ∙ append_assoc (before ++ parents_text (take n parents)) gap (spelled_id id) ∙ append_assoc before (parents_text (take n parents)) (gap ++ spelled_id id)
+    ∙ ap (λ z. before ++ z) (sym (append_assoc (parents_text (take n parents)) gap (spelled_id id)) ∙ parents_next parents n id gap e g)
+
 -- a place within a list has an item
 pub none_within : {X : Type 0} (xs : List X) (n : ℕ) → None ≡ slice_get xs n → n < length xs → ⊥
 none_within [] n e l = absurd (omega arith)
