@@ -14,7 +14,8 @@ use Rattle.braid_text.specs.Histories.{added_by, elements_of, deletions_of}
 use Rattle.braid_text.proofs.Answered.{is_answer}
 use Rattle.braid_text.proofs.Public.{legal_more, may_follow, elements_more, deletions_more, width_after, room_versions, only_answer}
 use Rattle.braid_text.proofs.Taking.{contains_holds}
-use Rattle.braid_check.specs.Accepted.{replica_limits, history_of, replica_answer, IsAccepted, AreAccepted, IsRefused}
+use Rattle.braid_text.specs.Rooms.{replica_limits}
+use Rattle.braid_check.specs.Accepted.{history_of, replica_answer, IsAccepted, AreAccepted, IsRefused}
 use Rattle.braid_check.specs.Kept.{IsWithin, Keeps}
 use Rattle.braid_check.proofs.Once.{once_exact, once_joins, once_passes}
 use Rattle.braid_check.proofs.OneByOne.{none_accepted, accepted_more}

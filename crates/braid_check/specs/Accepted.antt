@@ -6,21 +6,7 @@ use Rattle.braid_text.specs.Refusals.{same_update}
 use Rattle.braid_text.specs.Answers.{room_of, answer_to}
 use Rattle.braid_text.specs.declared.accept.Accept.{Accept}
 use Rattle.braid_text.specs.declared.accept.Accept.TheVariants.{New, Known, Clash, UnknownParent, OutOfRange, Full, Memory}
-use Rattle.braid_text.specs.declared.room.Room.{Room}
-use Rattle.braid_text.specs.declared.room.Which.{Which}
-use Rattle.braid_text.specs.declared.room.Which.TheVariants.{Resources, Versions, Elements, Deletions, Width}
-
--- the most that a replica has of one resource
-abbrev pub replica_limits : Room
-replica_limits = record { versions = 524_288; elements = 33_554_432; deletions = 67_108_864; width = 2_000 }
-
--- the limit of one count; there is one resource
-abbrev pub limit_of : Which → ℕ
-limit_of Resources = 1
-limit_of Versions = replica_limits.versions
-limit_of Elements = replica_limits.elements
-limit_of Deletions = replica_limits.deletions
-limit_of Width = replica_limits.width
+use Rattle.braid_text.specs.Rooms.{replica_limits}
 
 -- what a replica with this history answers to one more update
 abbrev pub replica_answer : List UpdateView → UpdateView → Accept

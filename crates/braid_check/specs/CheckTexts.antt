@@ -14,10 +14,10 @@ use Rattle.braid_text.specs.Histories.{graph_of, text_of}
 use Rattle.braid_text.specs.Digested.{digest_at}
 use Rattle.braid_text.specs.declared.accept.Accept.{Accept}
 use Rattle.braid_text.specs.declared.accept.Accept.TheVariants.{New, Known, Clash, UnknownParent, OutOfRange, Full, Memory}
-use Rattle.braid_text.specs.Rooms.{which_name}
+use Rattle.braid_text.specs.Rooms.{limit_of, replica_limits, which_name}
 use Rattle.braid_check.specs.declared.stop.Stop.{Stop}
 use Rattle.braid_check.specs.declared.stop.Stop.TheVariants as stops
-use Rattle.braid_check.specs.Accepted.{AreAccepted, IsRefused, history_of, limit_of, replica_answer}
+use Rattle.braid_check.specs.Accepted.{AreAccepted, IsRefused, history_of, replica_answer}
 
 -- the line for a fault of the stream
 abbrev pub fault_text : FrameFault → List ℕ
@@ -34,7 +34,7 @@ refusal_text Known = []
 refusal_text (Clash id) = codes "fault: Clash " ++ spelled_id id ++ codes "\n"
 refusal_text (UnknownParent id) = codes "fault: UnknownParent " ++ spelled_id id ++ codes "\n"
 refusal_text (OutOfRange patch len) = codes "fault: OutOfRange patch " ++ decimal patch ++ codes " len " ++ decimal len ++ codes "\n"
-refusal_text (Full which need room) = codes "fault: Full " ++ which_name which ++ codes " " ++ decimal (limit_of which) ++ codes "\n"
+refusal_text (Full which need room) = codes "fault: Full " ++ which_name which ++ codes " " ++ decimal (limit_of replica_limits which) ++ codes "\n"
 refusal_text Memory = []
 
 -- the line for a read that failed

@@ -8,10 +8,11 @@ use Rattle.braid_stream.specs.Pieces.{FailsBehind, EndsBehind}
 use Rattle.braid_stream.specs.Readers.{most_bytes}
 use Rattle.braid_graph.specs.Frontiers.{frontier_of}
 use Rattle.braid_text.specs.Histories.{graph_of, IsLegal, elements_of, deletions_of}
+use Rattle.braid_text.specs.Rooms.{replica_limits}
 use Rattle.braid_text.specs.declared.accept.Accept.{Accept}
 use Rattle.braid_check.specs.declared.stop.Stop.{Stop}
 use Rattle.braid_check.specs.declared.stop.Stop.TheVariants as stops
-use Rattle.braid_check.specs.Accepted.{replica_limits, AreAccepted, IsRefused, history_of, replica_answer}
+use Rattle.braid_check.specs.Accepted.{AreAccepted, IsRefused, history_of, replica_answer}
 
 -- a history is within the limits of a replica
 pub record IsWithin (H : List UpdateView) : Type 0 where

@@ -2,13 +2,11 @@
 
 ghost use Rattle.std.specs.Prelude.{◌≡◌, ◌++◌, IfOk, codes, decimal};
 ghost use Rattle.braid_ids.specs.Identifiers.{spelled_id};
-ghost use Rattle.braid_text.specs.Rooms.{which_name};
-ghost use Rattle.braid_check.specs.Accepted.{limit_of};
+ghost use Rattle.braid_text.specs.Rooms.{limit_of, replica_limits, which_name};
 ghost use Rattle.braid_check.specs.CheckTexts.{refusal_text};
 
-use crate::taking::REPLICA_LIMITS;
 use braid_ids::{Bytes, Id, Memory};
-use braid_text::{Accept, Which};
+use braid_text::{Accept, REPLICA_LIMITS, Which};
 use std::alloc::Global;
 
 /// The line for an update that was refused.
@@ -50,25 +48,12 @@ fn range_report(alloc: Global, patch: u32, len: u32) -> Result<Bytes, Memory>
 /// The line for a limit that an update would pass.
 fn full_report(alloc: Global, which: Which) -> Result<Bytes, Memory>
     ensures ok { IfOk result (λ text. text ≡ codes "fault: Full " ++ which_name which ++ codes " "
-        ++ decimal (limit_of which) ++ codes "\n") }
+        ++ decimal (limit_of replica_limits which) ++ codes "\n") }
 {
     let mut line = Bytes::of(alloc, b"fault: Full ")?;
     line.push(which.name().as_bytes())?;
     line.push(b" ")?;
-    line.push_number(limit_of(which))?;
+    line.push_number(REPLICA_LIMITS.of(which))?;
     line.push(b"\n")?;
     Ok(line)
-}
-
-/// The limit of one count. There is one resource.
-fn limit_of(which: Which) -> u64
-    ensures value { result ≡ limit_of which }
-{
-    match which {
-        Which::Resources => 1,
-        Which::Versions => REPLICA_LIMITS.versions,
-        Which::Elements => REPLICA_LIMITS.elements,
-        Which::Deletions => REPLICA_LIMITS.deletions,
-        Which::Width => REPLICA_LIMITS.width,
-    }
 }

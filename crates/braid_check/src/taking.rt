@@ -1,20 +1,12 @@
 ghost use Rattle.std.specs.Prelude.{◌≡◌, ◌≢◌, ◌++◌, ◌∷◌, []};
 ghost use Rattle.braid_text.specs.Answers.{IsAnswer, room_of};
+ghost use Rattle.braid_text.specs.Rooms.{replica_limits};
 ghost use Rattle.braid_text.specs.declared.accept.Accept.TheVariants.{New};
-ghost use Rattle.braid_check.specs.Accepted.{replica_limits};
 ghost use Rattle.braid_check.specs.Kept.{IsWithin};
 
 use braid_change::Update;
-use braid_text::{Accept, Resource, Room};
+use braid_text::{Accept, REPLICA_LIMITS, Resource, Room};
 use std::alloc::Global;
-
-/// The most that a replica has of one resource.
-pub const REPLICA_LIMITS: Room = Room {
-    versions: 524_288,
-    elements: 33_554_432,
-    deletions: 67_108_864,
-    width: 2_000,
-};
 
 /// Takes an update within the limits of a replica, or says why not.
 ///

@@ -23,7 +23,8 @@ use Rattle.braid_text.proofs.Same.{same_read}
 use Rattle.braid_text.proofs.Ties.{holds_log, log_holds}
 use Rattle.braid_outbox.specs.declared.learn.Learn.{Learn}
 use Rattle.braid_outbox.specs.declared.learn.Learn.TheVariants.{Memory as NoMemory}
-use Rattle.braid_outbox.specs.Replicas.{ReplicaView, IsSound, all_of, replica_limits}
+use Rattle.braid_text.specs.Rooms.{replica_limits}
+use Rattle.braid_outbox.specs.Replicas.{ReplicaView, IsSound, all_of}
 use Rattle.braid_outbox.specs.Learns.{confirm, is_first, clash, Learnt, Confirmed, Judged, learn_answer, learnt, learn, told}
 use Rattle.braid_outbox.specs.Standings.{IsNext}
 use Rattle.braid_outbox.proofs.Additions.{log_parts}

@@ -38,7 +38,8 @@ use Rattle.braid_text.proofs.Public.{frontier_log, needs_elements, needs_deletio
 use Rattle.braid_text.proofs.Same.{and_true}
 use Rattle.braid_text.proofs.Whole.{and_cases}
 use Rattle.braid_outbox.specs.Shapes.{is_change}
-use Rattle.braid_outbox.specs.Replicas.{ReplicaView, IsSound, all_of, log_of, frontier, number, greatest_number, replica_limits}
+use Rattle.braid_text.specs.Rooms.{replica_limits}
+use Rattle.braid_outbox.specs.Replicas.{ReplicaView, IsSound, all_of, log_of, frontier, number, greatest_number}
 use Rattle.braid_outbox.specs.Writes.{next_in, last_id, merged_of, merge_parents, merges_in, merges_of, merges_needed, next_merge, updates_needed, last_number, write_needs, is_written, additions, with_unsent, write, Fits, AddsMerges}
 use Rattle.braid_outbox.proofs.Shapes.{lt_to, lt_from, shaped_from}
 use Rattle.braid_outbox.proofs.Names.{number_name, number_is, next_greatest}

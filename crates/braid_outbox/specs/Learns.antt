@@ -11,7 +11,7 @@ use Rattle.braid_text.specs.declared.accept.Accept.TheVariants.{New, Known, Clas
 use Rattle.braid_outbox.specs.declared.learn.Learn.{Learn}
 use Rattle.braid_outbox.specs.declared.learn.Learn.TheVariants.{New as LearnNew, Confirmed as LearnConfirmed, Known as LearnKnown, Clash as LearnClash, UnknownParent as LearnUnknownParent, OutOfRange as LearnOutOfRange, Full as LearnFull, Memory as LearnMemory}
 use Rattle.braid_outbox.specs.Replicas.{ReplicaView, all_of}
-use Rattle.braid_outbox.specs.Writes.{limit_of}
+use Rattle.braid_text.specs.Rooms.{limit_of}
 
 -- the first unsent update goes to the end of the confirmed ones
 abbrev pub confirm : ReplicaView → List UpdateView → ReplicaView

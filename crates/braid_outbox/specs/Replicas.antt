@@ -8,6 +8,7 @@ use Rattle.braid_change.specs.Updates.{UpdateView}
 use Rattle.braid_graph.specs.Frontiers.{frontier_of}
 use Rattle.braid_text.specs.Histories.{graph_of, IsLegal}
 use Rattle.braid_text.specs.declared.room.Room.{Room}
+use Rattle.braid_text.specs.Rooms.{replica_limits}
 
 -- an agent, its confirmed updates and its unsent ones, oldest first
 pub record ReplicaView : Type 0 where
@@ -59,8 +60,5 @@ greatest_number a (u ∷ us) = max (unwrap_or (number a u.id) 0) (greatest_numbe
 
 -- the limits of a replica but for the width, and this limit of the width
 abbrev pub limits_with : ℕ → Room
-limits_with width = record { versions = 524288; elements = 33554432; deletions = 67108864; width = width }
+limits_with width = record replica_limits { width = width }
 
--- the limits of a replica
-abbrev pub replica_limits : Room
-replica_limits = limits_with 2000

@@ -12,9 +12,8 @@ use Rattle.braid_change.specs.Splices.{spliced, first_past}
 use Rattle.braid_text.specs.Histories.{text_of}
 use Rattle.braid_text.specs.Refusals.{first_full}
 use Rattle.braid_text.specs.Answers.{needs_of, room_of, IsOver}
+use Rattle.braid_text.specs.Rooms.{limit_of}
 use Rattle.braid_text.specs.declared.room.Room.{Room}
-use Rattle.braid_text.specs.declared.room.Which.{Which}
-use Rattle.braid_text.specs.declared.room.Which.TheVariants.{Resources, Versions, Elements, Deletions, Width}
 use Rattle.braid_outbox.specs.declared.faults.WriteFault.{WriteFault}
 use Rattle.braid_outbox.specs.declared.faults.WriteFault.TheVariants.{Shape, OutOfRange, NumbersSpent, Full, Memory}
 use Rattle.braid_outbox.specs.Shapes.{is_change}
@@ -92,14 +91,6 @@ with_unsent r new = record { agent = r.agent; confirmed = r.confirmed; unsent = 
 -- what a write leaves
 abbrev pub write : Room → ReplicaView → Change → ReplicaView
 write limits r c = if is_written limits r c then with_unsent r (additions r c) else r
-
--- a limit; there is none of resources
-abbrev pub limit_of : Room → Which → ℕ
-limit_of limits Resources = 0
-limit_of limits Versions = limits.versions
-limit_of limits Elements = limits.elements
-limit_of limits Deletions = limits.deletions
-limit_of limits Width = limits.width
 
 -- the text at a replica's frontier has a splice by the change
 abbrev pub Fits : ReplicaView → Change → Type 0

@@ -5,18 +5,18 @@ ghost use Rattle.std.specs.Option.{option_copied};
 ghost use Rattle.braid_graph.specs.Entries.{Holds, HoldsAll};
 ghost use Rattle.braid_text.specs.Histories.{graph_of};
 ghost use Rattle.braid_text.specs.Refusals.{first_missing};
-ghost use Rattle.braid_outbox.specs.Replicas.{IsSound, replica_limits};
-ghost use Rattle.braid_outbox.specs.Writes.{limit_of};
+ghost use Rattle.braid_text.specs.Rooms.{replica_limits};
+ghost use Rattle.braid_outbox.specs.Replicas.{IsSound};
 ghost use Rattle.braid_outbox.specs.Learns.{Judged, is_first, learn_answer, learn, told};
 ghost use Rattle.braid_outbox.specs.Standings.{Stands};
 ghost use Rattle.braid_outbox.specs.declared.learn.Learn.TheVariants.{Clash, UnknownParent, Memory};
 
 use crate::learn::Learn;
-use crate::replica::{MOST_DELETIONS, MOST_ELEMENTS, MOST_VERSIONS, MOST_WIDE, Replica};
+use crate::replica::Replica;
 use crate::standing::Standing;
 use braid_change::Update;
 use braid_ids::{Frontier, Id};
-use braid_text::{Accept, Which};
+use braid_text::{Accept, REPLICA_LIMITS};
 use std::alloc::Global;
 
 impl Replica {
@@ -44,7 +44,7 @@ impl Replica {
         if let Some(id) = self.least_unconfirmed(update.parents()) {
             return unknown_parent(alloc, id);
         }
-        learnt(self.add_confirmed(alloc, update, MOST_WIDE))
+        learnt(self.add_confirmed(alloc, update, REPLICA_LIMITS.width))
     }
 
     /// How an update stands among the replica's.
@@ -147,21 +147,8 @@ fn learnt(answer: Accept) -> Learn
         Accept::OutOfRange { patch, len } => Learn::OutOfRange { patch, len },
         Accept::Full { which, .. } => Learn::Full {
             which,
-            limit: limit_of(which),
+            limit: REPLICA_LIMITS.of(which),
         },
         Accept::Memory => Learn::Memory,
-    }
-}
-
-/// A limit of a replica.
-pub fn limit_of(which: Which) -> u64
-    ensures limit { result ≡ limit_of replica_limits which }
-{
-    match which {
-        Which::Resources => 0,
-        Which::Versions => MOST_VERSIONS,
-        Which::Elements => MOST_ELEMENTS,
-        Which::Deletions => MOST_DELETIONS,
-        Which::Width => MOST_WIDE,
     }
 }

@@ -5,10 +5,10 @@ ghost use Rattle.braid_outbox.specs.Made.{IsFine, IsFirstFault, IsBadReplica, Ma
 ghost use Rattle.braid_outbox.specs.Writes.{last_id, with_unsent};
 
 use crate::faults::BadReplica;
-use crate::replica::{ANY_WIDTH, MOST_WIDE, Replica};
+use crate::replica::{ANY_WIDTH, Replica};
 use braid_change::Update;
 use braid_ids::{Agent, Memory};
-use braid_text::Accept;
+use braid_text::{Accept, REPLICA_LIMITS};
 use std::alloc::Global;
 
 impl Replica {
@@ -34,7 +34,7 @@ impl Replica {
         replica.load_confirmed(alloc, &confirmed)?;
         replica.load_unsent(alloc, &unsent)?;
         let entries = replica.confirmed() + replica.unsent();
-        if replica.width() as u64 > MOST_WIDE {
+        if replica.width() as u64 > REPLICA_LIMITS.width {
             return Err(BadReplica::Entry { n: entries - 1 });
         }
         Ok(replica)

@@ -19,17 +19,9 @@ use crate::order::Order;
 use crate::standing::Standing;
 use braid_change::{Text, Update};
 use braid_ids::{Agent, Frontier, Id, Memory};
-use braid_text::{Accept, Resource, Room};
+use braid_text::{Accept, REPLICA_LIMITS, Resource, Room};
 use std::alloc::Global;
 use std::marker::Model;
-
-pub const MOST_VERSIONS: u64 = 524_288;
-
-pub const MOST_ELEMENTS: u64 = 33_554_432;
-
-pub const MOST_DELETIONS: u64 = 67_108_864;
-
-pub const MOST_WIDE: u64 = 2_000;
 
 /// A width that no history within the other limits has.
 pub const ANY_WIDTH: u64 = 1_000_000;
@@ -119,9 +111,9 @@ impl Replica {
         ensures room { result ≡ room_of (limits_with width) (all_of self.now) }
     {
         Room {
-            versions: MOST_VERSIONS - self.resource.entries() as u64,
-            elements: MOST_ELEMENTS - self.resource.elements() as u64,
-            deletions: MOST_DELETIONS - self.resource.deletions() as u64,
+            versions: REPLICA_LIMITS.versions - self.resource.entries() as u64,
+            elements: REPLICA_LIMITS.elements - self.resource.elements() as u64,
+            deletions: REPLICA_LIMITS.deletions - self.resource.deletions() as u64,
             width,
         }
     }

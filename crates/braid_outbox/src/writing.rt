@@ -8,17 +8,17 @@ ghost use Rattle.braid_text.specs.Histories.{text_of};
 ghost use Rattle.braid_text.specs.Refusals.{first_full};
 ghost use Rattle.braid_text.specs.Answers.{IsOver};
 ghost use Rattle.braid_outbox.specs.Shapes.{is_change};
-ghost use Rattle.braid_outbox.specs.Replicas.{all_of, log_of, frontier, greatest_number, replica_limits};
+ghost use Rattle.braid_text.specs.Rooms.{replica_limits};
+ghost use Rattle.braid_outbox.specs.Replicas.{all_of, log_of, frontier, greatest_number};
 ghost use Rattle.braid_outbox.specs.Writes.{AddsMerges, IsWriteFault, is_written, last_number, merges_needed, next_in, with_unsent, write, write_needs};
 ghost use Rattle.braid_outbox.specs.declared.faults.WriteFault.TheVariants.{Memory as NoMemory};
 
 use crate::counting::{Counts, counts_of};
 use crate::faults::WriteFault;
-use crate::learning::limit_of;
-use crate::replica::{ANY_WIDTH, MOST_WIDE, Replica};
+use crate::replica::{ANY_WIDTH, Replica};
 use braid_change::{Change, SpliceFault, Update};
 use braid_ids::{Frontier, Id, Memory};
-use braid_text::{Accept, Room, Which};
+use braid_text::{Accept, REPLICA_LIMITS, Room, Which};
 use std::alloc::Global;
 
 /// The numbers and the pure merges that a write takes.
@@ -104,11 +104,11 @@ impl Replica {
             deletions: counts.removed,
             width: 1,
         };
-        let room = self.room(MOST_WIDE);
+        let room = self.room(REPLICA_LIMITS.width);
         if let Some(which) = full(&need, &room) {
             return Err(WriteFault::Full {
                 which,
-                limit: limit_of(which),
+                limit: REPLICA_LIMITS.of(which),
             });
         }
         Ok(Plan {

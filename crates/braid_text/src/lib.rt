@@ -24,7 +24,7 @@ mod room;
 
 pub use accept::Accept;
 pub use resource::Resource;
-pub use room::{Room, Which};
+pub use room::{REPLICA_LIMITS, Room, Which};
 
 #[cfg(test)]
 mod tests;

@@ -5,7 +5,7 @@ use Rattle.braid_text.specs.Refusals.{first_missing}
 use Rattle.braid_text.specs.declared.accept.Accept.{Accept}
 use Rattle.braid_text.specs.declared.accept.Accept.TheVariants.{Known, Clash, UnknownParent}
 use Rattle.braid_outbox.specs.declared.learn.Learn.TheVariants.{Clash as IsClash}
-use Rattle.braid_outbox.specs.Replicas.{replica_limits}
+use Rattle.braid_text.specs.Rooms.{replica_limits}
 use Rattle.braid_outbox.specs.Learns.{Judged, told}
 use Rattle.braid_outbox.proofs.Found.{no_missing}
 use Rattle.braid_outbox.proofs.Learned.{known_answer, other_answer, missing_answer, judged_answer, judged_left, told_by, left_by, memory_told}

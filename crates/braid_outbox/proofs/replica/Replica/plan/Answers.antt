@@ -11,5 +11,5 @@ returns-in-Some-clause-fault c = (
   ((shaped_from c.args.change.now c.requires.shaped).0, c.in_ok-counts.ensures.fits),
   omega (arith, c.if-merges-left.false, c.merges_needed-merges.ensures.count, c.greatest_number-greatest.ensures.number),
   over_room c.args.self.now c.args.change.now _ _ _ _ c.in-Some.which c.merges_needed-merges.ensures.count c.in_ok-counts.ensures.elements c.in_ok-counts.ensures.deletions c.room-room.ensures.room c.in-Some.ensures.over,
-  c.limit_of.ensures.limit,
+  c.of.ensures.value,
 )

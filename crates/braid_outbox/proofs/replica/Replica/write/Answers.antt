@@ -1,7 +1,7 @@
 use Rattle.std.proofs.Common.{◌≡◌, true, arith, subst, ◌∙◌}
 use Rattle.std.proofs.lemmas.Result.{err_from_is_err_and}
 use Rattle.braid_change.specs.declared.change.Change.{Change}
-use Rattle.braid_outbox.specs.Replicas.{replica_limits}
+use Rattle.braid_text.specs.Rooms.{replica_limits}
 use Rattle.braid_outbox.specs.Writes.{IsWriteFault, is_written}
 use Rattle.braid_outbox.proofs.Written.{fault_passed, on_err, numbers_fit, change_number, adds_all}
 use Rattle.braid_outbox.proofs.replica.Replica.write.Goals as goal
