@@ -12,7 +12,7 @@ use Rattle.braid_ids.proofs.Splits.{one_split, lacks_at}
 use Rattle.braid_ids.proofs.Spelled.{spelling_same}
 use Rattle.braid_change.specs.Changes.{patches_of, content_len, patches_content, AreListed, AreNumbered, IsShaped}
 use Rattle.braid_change.specs.Updates.{UpdateView}
-use Rattle.braid_change.specs.Spellings.{parents_text, length_text, content_text, range_text, patch_text, change_text, canonical}
+use Rattle.braid_change.specs.Spellings.{list_text, length_text, content_text, range_text, patch_text, change_text, canonical}
 use Rattle.braid_change.specs.declared.patch.Patch.{Patch}
 use Rattle.braid_change.specs.declared.change.Change.{Change}
 use Rattle.braid_change.specs.declared.change.Change.TheVariants.{Body, Patches}
@@ -139,10 +139,10 @@ more_same (a ∷ xs) (b ∷ ys) x y e =
     let q = more_same xs ys x y p.1 in
     ((λ i. p.0 i ∷ q.0 i), q.1)
 
-begin : (id x : List ℕ) (ids : List (List ℕ)) → parents_text (id ∷ ids) ++ x ≡ (codes " " ++ spelled_id id) ++ (more_ids ids ++ x)
+begin : (id x : List ℕ) (ids : List (List ℕ)) → list_text (id ∷ ids) ++ x ≡ (codes " " ++ spelled_id id) ++ (more_ids ids ++ x)
 begin id x ids = ap (λ z. codes " " ++ z) (append_assoc (spelled_id id) (more_ids ids) x)
 
-parents_same : (xs ys : List (List ℕ)) (x y : List ℕ) → parents_text xs ++ 13 ∷ x ≡ parents_text ys ++ 13 ∷ y → (xs ≡ ys) × (x ≡ y)
+parents_same : (xs ys : List (List ℕ)) (x y : List ℕ) → list_text xs ++ 13 ∷ x ≡ list_text ys ++ 13 ∷ y → (xs ≡ ys) × (x ≡ y)
 parents_same [] [] x y e = (refl, tails 13 13 x y e)
 parents_same [] (b ∷ ys) x y e = absurd (let n : 13 ≡ 32 = heads _ _ _ _ (e ∙ begin b (13 ∷ y) ys) in omega arith)
 parents_same (a ∷ xs) [] x y e = absurd (let n : 32 ≡ 13 = heads _ _ _ _ (sym (begin a (13 ∷ x) xs) ∙ e) in omega arith)
@@ -169,7 +169,7 @@ update_same u v x y h k e =
     let c = change_same u.change v.change (codes "\r\n" ++ x) (codes "\r\n" ++ y) (fits_change u.change h) (fits_change v.change k) (append_cancel_left (codes "\n") _ _ b.1) in
     ((λ i. record { id = a.0 i; parents = b.0 i; change = c.0 i }), append_cancel_left (codes "\r\n") x y c.1)
   where
-    flat : (u : UpdateView) (x : List ℕ) → canonical u ++ x ≡ codes "Version: " ++ (spelled_id u.id ++ (codes "\r\nParents:" ++ (parents_text u.parents ++ 13 ∷ (codes "\n" ++ (change_text u.change ++ (codes "\r\n" ++ x))))))
+    flat : (u : UpdateView) (x : List ℕ) → canonical u ++ x ≡ codes "Version: " ++ (spelled_id u.id ++ (codes "\r\nParents:" ++ (list_text u.parents ++ 13 ∷ (codes "\n" ++ (change_text u.change ++ (codes "\r\n" ++ x))))))
     flat u x = simp append_assoc
 
 not_nil : (a : ℕ) (x : List ℕ) → [] ≡ a ∷ x → ⊥

@@ -5,7 +5,7 @@ use Rattle.std.proofs.lemmas.Fmt.{length-decimal-le_succ}
 use Rattle.braid_ids.specs.Identifiers.{IsIdentifier, escaped, spelled_id, spelled_ids}
 use Rattle.braid_change.specs.Changes.{patches_content, AreListed, AreNumbered, IsShaped}
 use Rattle.braid_change.specs.Updates.{UpdateView, IsUpdate}
-use Rattle.braid_change.specs.Spellings.{parents_text, length_text, content_text, range_text, patch_text, change_text, canonical}
+use Rattle.braid_change.specs.Spellings.{list_text, length_text, content_text, range_text, patch_text, change_text, canonical}
 use Rattle.braid_change.specs.declared.patch.Patch.{Patch}
 use Rattle.braid_change.specs.declared.change.Change.{Change}
 use Rattle.braid_change.specs.declared.change.Change.TheVariants.{Body, Patches}
@@ -36,7 +36,7 @@ others_short [] a = omega arith
 others_short (id ∷ ids) a =
     omega (arith, length-append (44 ∷ 32 ∷ spelled_id id) (flat_map (λ (other : List ℕ). 44 ∷ 32 ∷ spelled_id other) ids), id_short id a.0, others_short ids a.1)
 
-parents_short : (ids : List (List ℕ)) → AllByRecursion IsIdentifier ids → length (parents_text ids) ≤ 260 * length ids
+parents_short : (ids : List (List ℕ)) → AllByRecursion IsIdentifier ids → length (list_text ids) ≤ 260 * length ids
 parents_short [] a = omega arith
 parents_short (id ∷ ids) a =
     omega (arith, length-append (spelled_id id) (flat_map (λ (other : List ℕ). 44 ∷ 32 ∷ spelled_id other) ids), id_short id a.0, others_short ids a.1)
@@ -91,10 +91,10 @@ canonical_short u i =
     let few = i.built.few_parents in
     let one = both (codes "Version: ") (spelled_id u.id) 9 _ (omega arith) (id_short u.id i.identifier) in
     let two = both (codes "Version: " ++ spelled_id u.id) (codes "\r\nParents:") _ 10 one (omega arith) in
-    let three = both (codes "Version: " ++ spelled_id u.id ++ codes "\r\nParents:") (parents_text u.parents) _ _ two (parents_short u.parents i.identifiers) in
-    let four = both (codes "Version: " ++ spelled_id u.id ++ codes "\r\nParents:" ++ parents_text u.parents) (codes "\r\n") _ 2 three (omega arith) in
-    let five = both (codes "Version: " ++ spelled_id u.id ++ codes "\r\nParents:" ++ parents_text u.parents ++ codes "\r\n") (change_text u.change) _ _ four (change_short u.change i.built.shaped) in
-    let six = both (codes "Version: " ++ spelled_id u.id ++ codes "\r\nParents:" ++ parents_text u.parents ++ codes "\r\n" ++ change_text u.change) (codes "\r\n") _ 2 five (omega arith) in
+    let three = both (codes "Version: " ++ spelled_id u.id ++ codes "\r\nParents:") (list_text u.parents) _ _ two (parents_short u.parents i.identifiers) in
+    let four = both (codes "Version: " ++ spelled_id u.id ++ codes "\r\nParents:" ++ list_text u.parents) (codes "\r\n") _ 2 three (omega arith) in
+    let five = both (codes "Version: " ++ spelled_id u.id ++ codes "\r\nParents:" ++ list_text u.parents ++ codes "\r\n") (change_text u.change) _ _ four (change_short u.change i.built.shaped) in
+    let six = both (codes "Version: " ++ spelled_id u.id ++ codes "\r\nParents:" ++ list_text u.parents ++ codes "\r\n" ++ change_text u.change) (codes "\r\n") _ 2 five (omega arith) in
     omega (arith, six, few)
 
 -- a count of all bytes of such a spelling is exact

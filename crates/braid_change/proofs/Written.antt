@@ -8,7 +8,7 @@ use Rattle.std.proofs.lemmas.Bool.Decides.{nat_tests}
 use Rattle.std.proofs.lemmas.Str.{encodes-append}
 use Rattle.braid_ids.specs.Identifiers.{spelled_id}
 use Rattle.braid_change.specs.Changes.{patches_content}
-use Rattle.braid_change.specs.Spellings.{parents_text}
+use Rattle.braid_change.specs.Spellings.{list_text}
 use Rattle.braid_change.specs.Texts.{PutsFront}
 use Rattle.braid_change.specs.declared.patch.Patch.{Patch}
 
@@ -42,7 +42,7 @@ part_short patches i p l e h =
     omega (arith, k, s, h)
 
 -- what follows one more parent
-next_parent : (ids : List (List ℕ)) (id : List ℕ) → parents_text (ids ++ id ∷ []) ≡ parents_text ids ++ (cond (length ids == 0) (codes " ") (codes ", ") ++ spelled_id id)
+next_parent : (ids : List (List ℕ)) (id : List ℕ) → list_text (ids ++ id ∷ []) ≡ list_text ids ++ (cond (length ids == 0) (codes " ") (codes ", ") ++ spelled_id id)
 next_parent [] id = ap (λ z. codes " " ++ z) (append-nil (spelled_id id))
 next_parent (x ∷ ids) id =
     let g : List ℕ → List ℕ = λ next. codes ", " ++ spelled_id next in
@@ -54,21 +54,21 @@ next_parent (x ∷ ids) id =
     not_none n = grind (arith, nat_tests)
 
 -- one more parent, behind what stands between
-pub parents_next : (parents : List (List ℕ)) (n : ℕ) (id gap : List ℕ) → Some id ≡ slice_get parents n → gap ≡ cond (n == 0) (codes " ") (codes ", ") → (parents_text (take n parents) ++ gap) ++ spelled_id id ≡ parents_text (take (n + 1) parents)
+pub parents_next : (parents : List (List ℕ)) (n : ℕ) (id gap : List ℕ) → Some id ≡ slice_get parents n → gap ≡ cond (n == 0) (codes " ") (codes ", ") → (list_text (take n parents) ++ gap) ++ spelled_id id ≡ list_text (take (n + 1) parents)
 parents_next parents n id gap e g =
     let l : n < length parents = slice_get_within parents n id (sym e) in
     let i : id ≡ get_or parents n id = sym (get_or_from_slice_get parents n id id (sym e)) in
     let len : length (take n parents) ≡ n = length-take-le n parents (omega (arith, l)) in
     let gap_is : gap ≡ cond (length (take n parents) == 0) (codes " ") (codes ", ") = g ∙ ap (λ k. cond (k == 0) (codes " ") (codes ", ")) (sym len) in
-    ap (λ z. (parents_text (take n parents) ++ z) ++ spelled_id id) gap_is
-    ∙ append_assoc (parents_text (take n parents)) (cond (length (take n parents) == 0) (codes " ") (codes ", ")) (spelled_id id)
-    ∙ sym (ap parents_text (taken_more parents n id l i) ∙ next_parent (take n parents) id)
+    ap (λ z. (list_text (take n parents) ++ z) ++ spelled_id id) gap_is
+    ∙ append_assoc (list_text (take n parents)) (cond (length (take n parents) == 0) (codes " ") (codes ", ")) (spelled_id id)
+    ∙ sym (ap list_text (taken_more parents n id l i) ∙ next_parent (take n parents) id)
 
-pub parents_more : (before old one two gap : List ℕ) (parents : List (List ℕ)) (n : ℕ) (id : List ℕ) → Some id ≡ slice_get parents n → old ≡ before ++ parents_text (take n parents) → gap ≡ cond (n == 0) (codes " ") (codes ", ") → one ≡ old ++ gap → two ≡ one ++ spelled_id id
-    → two ≡ before ++ parents_text (take (n + 1) parents)
+pub parents_more : (before old one two gap : List ℕ) (parents : List (List ℕ)) (n : ℕ) (id : List ℕ) → Some id ≡ slice_get parents n → old ≡ before ++ list_text (take n parents) → gap ≡ cond (n == 0) (codes " ") (codes ", ") → one ≡ old ++ gap → two ≡ one ++ spelled_id id
+    → two ≡ before ++ list_text (take (n + 1) parents)
 parents_more before old one two gap parents n id e o g a b =
-    b ∙ ap (λ z. z ++ spelled_id id) (a ∙ ap (λ z. z ++ gap) o) ∙ append_assoc (before ++ parents_text (take n parents)) gap (spelled_id id) ∙ append_assoc before (parents_text (take n parents)) (gap ++ spelled_id id)
-    ∙ ap (λ z. before ++ z) (sym (append_assoc (parents_text (take n parents)) gap (spelled_id id)) ∙ parents_next parents n id gap e g)
+    b ∙ ap (λ z. z ++ spelled_id id) (a ∙ ap (λ z. z ++ gap) o) ∙ append_assoc (before ++ list_text (take n parents)) gap (spelled_id id) ∙ append_assoc before (list_text (take n parents)) (gap ++ spelled_id id)
+    ∙ ap (λ z. before ++ z) (sym (append_assoc (list_text (take n parents)) gap (spelled_id id)) ∙ parents_next parents n id gap e g)
 
 -- a place within a list has an item
 pub none_within : {X : Type 0} (xs : List X) (n : ℕ) → None ≡ slice_get xs n → n < length xs → ⊥

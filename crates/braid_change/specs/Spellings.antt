@@ -8,9 +8,9 @@ use Rattle.braid_change.specs.declared.change.Change.{Change}
 use Rattle.braid_change.specs.declared.change.Change.TheVariants.{Body, Patches}
 
 -- what follows `Parents:`: nothing where there are none, else a space and their list
-abbrev pub parents_text : List (List ℕ) → List ℕ
-parents_text [] = []
-parents_text (id ∷ ids) = codes " " ++ spelled_ids (id ∷ ids)
+abbrev pub list_text : List (List ℕ) → List ℕ
+list_text [] = []
+list_text (id ∷ ids) = codes " " ++ spelled_ids (id ∷ ids)
 
 -- the line of a text's length, without its end
 abbrev pub length_text : List ℕ → List ℕ
@@ -35,7 +35,7 @@ change_text (Patches patches) = codes "Patches: " ++ decimal (length patches) ++
 
 -- the canonical spelling of an update
 abbrev pub canonical : UpdateView → List ℕ
-canonical u = codes "Version: " ++ spelled_id u.id ++ codes "\r\nParents:" ++ parents_text u.parents ++ codes "\r\n" ++ change_text u.change ++ codes "\r\n"
+canonical u = codes "Version: " ++ spelled_id u.id ++ codes "\r\nParents:" ++ list_text u.parents ++ codes "\r\n" ++ change_text u.change ++ codes "\r\n"
 
 -- the canonical spellings of updates, one after the other
 abbrev pub canonical_all : List UpdateView → List ℕ

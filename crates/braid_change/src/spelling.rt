@@ -1,7 +1,7 @@
 ghost use Rattle.std.specs.Prelude.{◌≡◌, ◌==◌, ◌<◌, ◌^◌, length, codes, decimal, flat_map, if◌then◌else◌, encode_utf8_all, IfOk};
 ghost use Rattle.braid_ids.specs.Identifiers.{spelled_id, escaped};
 ghost use Rattle.braid_change.specs.Changes.{content_len, patches_content};
-ghost use Rattle.braid_change.specs.Spellings.{canonical, parents_text, length_text, content_text, range_text, patch_text, change_text};
+ghost use Rattle.braid_change.specs.Spellings.{canonical, list_text, length_text, content_text, range_text, patch_text, change_text};
 
 use crate::change::Change;
 use crate::outlet::{Counted, Grown, Outlet};
@@ -75,7 +75,7 @@ fn put_escaped<O: Outlet>(byte: u8, out: &mut O)
 
 /// Puts what follows `Parents:`.
 fn put_parents<O: Outlet>(parents: &Frontier, out: &mut O)
-    ensures puts { O.puts (parents_text parents.now) out.old out.new }
+    ensures puts { O.puts (list_text parents.now) out.old out.new }
 {
     for n in 0..parents.len() {
         let Some(id) = parents.get(n) else {

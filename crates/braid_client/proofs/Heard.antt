@@ -4,7 +4,7 @@ use Rattle.std.proofs.lemmas.Bool.{cases_lt}
 use Rattle.braid_io.specs.Outside.{Intake, Outflow}
 use Rattle.braid_change.specs.Updates.{UpdateView}
 use Rattle.braid_grammar.specs.Streams.{HaveUpdates, BeginsWith}
-use Rattle.braid_frame.specs.Goings.{HasFault}
+use Rattle.braid_frame.specs.Phases.{HasFault}
 use Rattle.braid_stream.specs.declared.reading.Reading.{Reading}
 use Rattle.braid_stream.specs.Readers.{most_bytes, HasTaken, GoesOn, update}
 use Rattle.braid_stream.proofs.AtHand.{no_answer}

@@ -3,7 +3,8 @@ use Rattle.std.proofs.Common.{◌≡◌, ℕ, List, [], ◌∷◌, ◌++◌, Opt
 use Rattle.std.proofs.lemmas.List.Elements.{Contains-append_left, Contains-append_right, Contains-append_cases}
 use Rattle.braid_change.specs.Updates.{UpdateView}
 use Rattle.braid_text.specs.declared.accept.Accept.TheVariants as accepts
-use Rattle.braid_outbox.specs.Replicas.{ReplicaView, all_of, IsSound, replica_limits}
+use Rattle.braid_text.specs.Rooms.{replica_limits}
+use Rattle.braid_outbox.specs.Replicas.{ReplicaView, all_of, IsSound}
 use Rattle.braid_outbox.specs.Learns.{Learnt, Confirmed, Judged, learn_answer, confirm}
 use Rattle.braid_outbox.specs.Learns as outbox
 use Rattle.braid_outbox.specs.Laws.{LosesNone}

@@ -5,7 +5,7 @@ use Rattle.braid_change.specs.Updates.{UpdateView}
 use Rattle.braid_grammar.specs.Streams.{IsStream}
 use Rattle.braid_grammar.proofs.Law.{no_stream}
 use Rattle.braid_frame.specs.declared.fed.FrameFault.{FrameFault}
-use Rattle.braid_frame.specs.Goings.{HasFault}
+use Rattle.braid_frame.specs.Phases.{HasFault}
 use Rattle.braid_stream.specs.Readers.{most_bytes}
 use Rattle.braid_http.specs.declared.refusal.Refusal.TheVariants.{BadChunk}
 use Rattle.braid_http.specs.declared.response.ReplyHead.{ReplyHead}

@@ -4,7 +4,7 @@ use Rattle.std.proofs.lemmas.List.{append_cancel_left, take-append-le}
 use Rattle.braid_change.specs.Updates.{UpdateView}
 use Rattle.braid_grammar.specs.Streams.{HaveUpdates}
 use Rattle.braid_frame.specs.declared.fed.FrameFault.{FrameFault}
-use Rattle.braid_frame.specs.Goings.{HasFault}
+use Rattle.braid_frame.specs.Phases.{HasFault}
 use Rattle.braid_stream.specs.Readers.{most_bytes}
 use Rattle.braid_http.specs.declared.refusal.Refusal.TheVariants.{BadChunk}
 use Rattle.braid_http.specs.declared.response.BodyKind.{BodyKind}

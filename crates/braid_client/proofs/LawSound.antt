@@ -5,7 +5,8 @@ use Rattle.braid_change.specs.Updates.{UpdateView, IsUpdate}
 use Rattle.braid_grammar.specs.Streams.{IsStream}
 use Rattle.braid_grammar.proofs.OneUpdate.{spelled_is_update}
 use Rattle.braid_text.specs.Histories.{IsLegal}
-use Rattle.braid_outbox.specs.Replicas.{ReplicaView, all_of, IsChained, IsSound, replica_limits}
+use Rattle.braid_text.specs.Rooms.{replica_limits}
+use Rattle.braid_outbox.specs.Replicas.{ReplicaView, all_of, IsChained, IsSound}
 use Rattle.braid_outbox.proofs.Public.{learn_law}
 use Rattle.braid_client.specs.declared.place.Place.{Place}
 use Rattle.braid_client.specs.declared.end.SyncEnd.{SyncEnd}

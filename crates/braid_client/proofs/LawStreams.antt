@@ -10,7 +10,7 @@ use Rattle.braid_grammar.proofs.Readers.{next_stable}
 use Rattle.braid_grammar.proofs.Law.{IsEnd, Runs, runs_same, front_runs, fault_runs}
 use Rattle.braid_grammar.proofs.Completed.{runs_out, stream_completes}
 use Rattle.braid_frame.specs.declared.fed.FrameFault.{FrameFault}
-use Rattle.braid_frame.specs.Goings.{HasFault}
+use Rattle.braid_frame.specs.Phases.{HasFault}
 use Rattle.braid_client.specs.Hearing.{BeginWith}
 
 not_whole : (o : Outcome UpdateView) (u : UpdateView) (to : ℕ) (rest : List ℕ) → IsEnd o → o ≡ Whole u to rest → ⊥

@@ -16,7 +16,7 @@ use Rattle.braid_ids.proofs.Spelled.{alone, after, escape_of}
 use Rattle.braid_ids.proofs.Splits.{lacks_append}
 use Rattle.braid_shelf.proofs.Listed.{ids_listed}
 use Rattle.braid_change.specs.Updates.{UpdateView}
-use Rattle.braid_change.specs.Spellings.{parents_text as list_text}
+use Rattle.braid_change.specs.Spellings.{list_text}
 use Rattle.braid_fields.specs.Values.{strings_in_value}
 use Rattle.braid_fields.specs.Table.{is_bad_id, has_bad_id, members_of, is_other_merge_type}
 use Rattle.braid_fields.proofs.ValueReading.{strings_law}

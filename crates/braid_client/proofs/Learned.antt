@@ -4,7 +4,8 @@ use Rattle.braid_change.specs.Updates.{UpdateView}
 use Rattle.braid_text.specs.declared.accept.Accept.TheVariants as accepts
 use Rattle.braid_outbox.specs.declared.learn.Learn.{Learn}
 use Rattle.braid_outbox.specs.declared.learn.Learn.TheVariants as learns
-use Rattle.braid_outbox.specs.Replicas.{ReplicaView, replica_limits}
+use Rattle.braid_text.specs.Rooms.{replica_limits}
+use Rattle.braid_outbox.specs.Replicas.{ReplicaView}
 use Rattle.braid_outbox.specs.Learns.{Learnt, Confirmed, Judged, learn_answer, told}
 use Rattle.braid_outbox.specs.Learns as outbox
 use Rattle.braid_client.specs.declared.end.SyncEnd.{SyncEnd}

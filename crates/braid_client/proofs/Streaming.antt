@@ -4,7 +4,7 @@ use Rattle.std.proofs.lemmas.List.{take_all, take_at}
 use Rattle.braid_change.specs.Updates.{UpdateView}
 use Rattle.braid_grammar.specs.Streams.{no_line, SpellsUpdate, IsStream, BeginsWith, HaveUpdates}
 use Rattle.braid_frame.specs.declared.fed.FrameFault.{FrameFault}
-use Rattle.braid_frame.specs.Goings.{HasFault}
+use Rattle.braid_frame.specs.Phases.{HasFault}
 use Rattle.braid_frame.proofs.Stood.{fault_more}
 use Rattle.braid_stream.specs.Readers.{most_bytes}
 use Rattle.braid_client.specs.Hearing.{BeginWith, seen}

@@ -3,7 +3,7 @@ use Rattle.std.specs.Prelude.{◌≡◌, ◌≢◌, ◌<◌, ◌≤◌, ◌⊎�
 use Rattle.std.specs.Io.KnownBytes.{IsAtEnd}
 use Rattle.braid_change.specs.Updates.{UpdateView}
 use Rattle.braid_grammar.specs.Streams.{IsStream, HaveUpdates}
-use Rattle.braid_frame.specs.Goings.{HasFault}
+use Rattle.braid_frame.specs.Phases.{HasFault}
 use Rattle.braid_stream.specs.Readers.{most_bytes}
 use Rattle.braid_http.specs.declared.refusal.Refusal.TheVariants.{BadChunk}
 use Rattle.braid_http.specs.declared.response.BodyKind.{BodyKind}

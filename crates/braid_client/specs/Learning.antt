@@ -5,7 +5,8 @@ use Rattle.braid_graph.specs.Entries.{HoldsAll}
 use Rattle.braid_text.specs.Histories.{graph_of}
 use Rattle.braid_outbox.specs.declared.learn.Learn.{Learn}
 use Rattle.braid_outbox.specs.declared.learn.Learn.TheVariants as learns
-use Rattle.braid_outbox.specs.Replicas.{ReplicaView, replica_limits}
+use Rattle.braid_text.specs.Rooms.{replica_limits}
+use Rattle.braid_outbox.specs.Replicas.{ReplicaView}
 use Rattle.braid_outbox.specs.Learns.{learn_answer, learn, told}
 use Rattle.braid_client.specs.declared.end.SyncEnd.{SyncEnd}
 use Rattle.braid_client.specs.declared.end.SyncEnd.TheVariants as ends

@@ -4,7 +4,7 @@ use Rattle.std.specs.Io.KnownBytes.{append_known, prepend_known}
 use Rattle.braid_io.specs.Outside.{Intake, Outflow, Rose}
 use Rattle.braid_change.specs.Updates.{UpdateView}
 use Rattle.braid_grammar.specs.Streams.{IsStream, HaveUpdates, BeginsWith, IsTorn}
-use Rattle.braid_frame.specs.Goings.{HasFault}
+use Rattle.braid_frame.specs.Phases.{HasFault}
 use Rattle.braid_stream.specs.declared.reading.Reading.{Reading}
 use Rattle.braid_stream.specs.Readers.{most_bytes, budget, GoesOn, HasTaken}
 use Rattle.braid_http.specs.declared.body.Body.{Body}

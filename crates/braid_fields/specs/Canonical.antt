@@ -2,7 +2,7 @@
 use Rattle.std.specs.Prelude.{ℕ, List, [], ◌∷◌, ◌++◌, length, codes, decimal, encode_utf8_all}
 use Rattle.braid_ids.specs.Identifiers.{spelled_id, spelled_ids}
 use Rattle.braid_change.specs.Updates.{UpdateView}
-use Rattle.braid_change.specs.Spellings.{parents_text, range_text}
+use Rattle.braid_change.specs.Spellings.{list_text, range_text}
 use Rattle.braid_change.specs.declared.patch.Patch.{Patch}
 use Rattle.braid_change.specs.declared.change.Change.{Change}
 use Rattle.braid_change.specs.declared.change.Change.TheVariants.{Body, Patches}
@@ -17,7 +17,7 @@ abbrev pub version_line : List ℕ → List ℕ
 version_line id = codes "Version: " ++ (spelled_id id ++ codes "\r\n")
 
 abbrev pub parents_line : List (List ℕ) → List ℕ
-parents_line parents = codes "Parents:" ++ (parents_text parents ++ codes "\r\n")
+parents_line parents = codes "Parents:" ++ (list_text parents ++ codes "\r\n")
 
 abbrev pub patches_line : ℕ → List ℕ
 patches_line count = codes "Patches: " ++ (decimal count ++ codes "\r\n")

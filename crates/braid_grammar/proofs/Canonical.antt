@@ -8,7 +8,7 @@ use Rattle.braid_change.specs.declared.change.Change.{Change}
 use Rattle.braid_change.specs.declared.change.Change.TheVariants.{Body, Patches}
 use Rattle.braid_change.specs.Changes.{patches_content, AreListed, AreNumbered, HaveScalars}
 use Rattle.braid_change.specs.Updates.{UpdateView}
-use Rattle.braid_change.specs.Spellings.{parents_text, range_text, patch_text, canonical}
+use Rattle.braid_change.specs.Spellings.{list_text, range_text, patch_text, canonical}
 use Rattle.braid_fields.specs.Fields.{Field}
 use Rattle.braid_fields.specs.Canonical.{version_line, parents_line, patches_line, length_line, range_line, change_field, head_fields, patch_fields, update_plan, plan_of_patch}
 use Rattle.braid_fields.proofs.CanonicalLines.{version_field, parents_field, length_field, patches_field, range_field}
@@ -57,7 +57,7 @@ head_is u last k l h =
       good = tt;
       rest = fields_of_lines (head_fields u) (version_line u.id ∷ parents_line u.parents ∷ last ∷ []) (omega arith) (version, (parents, (h, tt)));
       spelled = refl;
-      short = omega (arith, limit_is, three_len (version_line u.id) (parents_line u.parents) last (codes "\r\n"), around_len (codes "Version: ") (spelled_id u.id) (codes "\r\n"), around_len (codes "Parents:") (parents_text u.parents) (codes "\r\n"), spelled_len u.id k.identifier, parents_len u.parents k.identifiers, k.built.few_parents);
+      short = omega (arith, limit_is, three_len (version_line u.id) (parents_line u.parents) last (codes "\r\n"), around_len (codes "Version: ") (spelled_id u.id) (codes "\r\n"), around_len (codes "Parents:") (list_text u.parents) (codes "\r\n"), spelled_len u.id k.identifier, parents_len u.parents k.identifiers, k.built.few_parents);
     }
 
 -- an empty line, and more of a gap
@@ -96,7 +96,7 @@ body_split id ids text k =
         spelled = refl;
       };
       is_rest = crlf_gap (codes "\r\n") (crlf_gap [] no_line);
-      spelled = regroup_body (codes "Version: ") (spelled_id id) (codes "\r\n") (codes "Parents:") (parents_text ids) (codes "Content-Length: ") (decimal n) (encode_utf8_all text);
+      spelled = regroup_body (codes "Version: ") (spelled_id id) (codes "\r\n") (codes "Parents:") (list_text ids) (codes "Content-Length: ") (decimal n) (encode_utf8_all text);
     }
 
 -- the head of a patch and its content
@@ -202,7 +202,7 @@ patches_split id ids ps k =
         spelled = refl;
       };
       is_rest = gap_append (last_gap [] ps) (codes "\r\n") (last_is_gap [] ps no_line) (crlf_gap [] no_line);
-      spelled = regroup_patches (codes "Version: ") (spelled_id id) (codes "\r\n") (codes "Parents:") (parents_text ids) (codes "Patches: ") (decimal n) (flat_map patch_text ps) (fronts [] ps) (last_gap [] ps) (fronts_are [] ps);
+      spelled = regroup_patches (codes "Version: ") (spelled_id id) (codes "\r\n") (codes "Parents:") (list_text ids) (codes "Patches: ") (decimal n) (flat_map patch_text ps) (fronts [] ps) (last_gap [] ps) (fronts_are [] ps);
     }
 
 -- the canonical spelling of an update

@@ -4,7 +4,7 @@ use Rattle.std.proofs.lemmas.Bool.{cases_Bool}
 use Rattle.std.proofs.lemmas.Fmt.{length-decimal-le}
 use Rattle.std.specs.List.{AllByRecursion}
 use Rattle.braid_ids.specs.Identifiers.{IsIdentifier, escaped, spelled_id, spelled_ids}
-use Rattle.braid_change.specs.Spellings.{parents_text}
+use Rattle.braid_change.specs.Spellings.{list_text}
 
 escaped_len : (byte : ℕ) → length (escaped byte) ≤ 2
 escaped_len byte = elim (cases_Bool (eqb byte 34 || eqb byte 92)) [ inl e ↦ rw e (omega arith) | inr e ↦ rw e (omega arith) ]
@@ -21,7 +21,7 @@ others_len [] h = omega arith
 others_len (id ∷ ids) h =
     omega (arith, length-append (44 ∷ 32 ∷ spelled_id id) (flat_map (λ other. 44 ∷ 32 ∷ spelled_id other) ids), spelled_len id h.0, others_len ids h.1)
 
-pub parents_len : (ids : List (List ℕ)) → AllByRecursion IsIdentifier ids → length (parents_text ids) ≤ 1 + 260 * length ids
+pub parents_len : (ids : List (List ℕ)) → AllByRecursion IsIdentifier ids → length (list_text ids) ≤ 1 + 260 * length ids
 parents_len [] h = omega arith
 parents_len (id ∷ ids) h =
     omega (arith, length-append (codes " ") (spelled_ids (id ∷ ids)), length-append (spelled_id id) (flat_map (λ other. 44 ∷ 32 ∷ spelled_id other) ids), spelled_len id h.0, others_len ids h.1)

@@ -7,7 +7,7 @@ use Rattle.braid_change.specs.Updates.{UpdateView}
 use Rattle.braid_change.specs.declared.patch.Patch.{Patch}
 use Rattle.braid_change.specs.declared.change.Change.{Change}
 use Rattle.braid_change.specs.declared.change.Change.TheVariants.{Patches}
-use Rattle.braid_change.specs.Spellings.{canonical, parents_text, patch_text, change_text}
+use Rattle.braid_change.specs.Spellings.{canonical, list_text, patch_text, change_text}
 use Rattle.braid_http.specs.Replies.{ended}
 use Rattle.braid_http.specs.Calls.{put_content}
 
@@ -32,16 +32,16 @@ regroup : (name id parents list end count number patches : List ℕ)
 regroup name id parents list end count number patches = simp append_assoc
 
 pub content_behind : (u : UpdateView) (patches : List Patch) (count : ℕ) (spelled o0 o1 o2 head content : List ℕ) → u.change ≡ Patches patches → count ≡ length patches → spelled ≡ canonical u
-    → o0 ≡ [] → o1 ≡ o0 ++ (codes "Version: " ++ (spelled_id u.id ++ (codes "\r\nParents:" ++ (parents_text u.parents ++ codes "\r\n"))))
+    → o0 ≡ [] → o1 ≡ o0 ++ (codes "Version: " ++ (spelled_id u.id ++ (codes "\r\nParents:" ++ (list_text u.parents ++ codes "\r\n"))))
     → o2 ≡ o1 ++ (codes "Patches: " ++ (decimal count ++ codes "\r\n")) → head ≡ o2 ++ codes "\r\n" → content ≡ drop (length head) spelled → content ≡ put_content u.change
 content_behind u patches count spelled o0 o1 o2 head content p n s e0 e1 e2 e3 c =
-    let front = (codes "Version: " ++ (spelled_id u.id ++ (codes "\r\nParents:" ++ (parents_text u.parents ++ codes "\r\n")))) ++ (codes "Patches: " ++ (decimal count ++ codes "\r\n")) ++ codes "\r\n" in
-    let head_is : head ≡ front = e3 ∙ ap (λ z. z ++ codes "\r\n") (e2 ∙ ap (λ z. z ++ (codes "Patches: " ++ (decimal count ++ codes "\r\n"))) (e1 ∙ ap (λ z. z ++ (codes "Version: " ++ (spelled_id u.id ++ (codes "\r\nParents:" ++ (parents_text u.parents ++ codes "\r\n"))))) e0)) in
+    let front = (codes "Version: " ++ (spelled_id u.id ++ (codes "\r\nParents:" ++ (list_text u.parents ++ codes "\r\n")))) ++ (codes "Patches: " ++ (decimal count ++ codes "\r\n")) ++ codes "\r\n" in
+    let head_is : head ≡ front = e3 ∙ ap (λ z. z ++ codes "\r\n") (e2 ∙ ap (λ z. z ++ (codes "Patches: " ++ (decimal count ++ codes "\r\n"))) (e1 ∙ ap (λ z. z ++ (codes "Version: " ++ (spelled_id u.id ++ (codes "\r\nParents:" ++ (list_text u.parents ++ codes "\r\n"))))) e0)) in
     let same : canonical u ≡ canonical (record { id = u.id; parents = u.parents; change = Patches patches }) = ap (λ (z : Change). canonical (record { id = u.id; parents = u.parents; change = z })) p in
     let numbered : change_text (Patches patches) ≡ codes "Patches: " ++ decimal count ++ codes "\r\n\r\n" ++ flat_map patch_text patches = ap (λ z. codes "Patches: " ++ decimal z ++ codes "\r\n\r\n" ++ flat_map patch_text patches) (sym n) in
     let whole : spelled ≡ head ++ put_content (Patches patches) =
-    s ∙ same ∙ ap (λ z. codes "Version: " ++ spelled_id u.id ++ codes "\r\nParents:" ++ parents_text u.parents ++ codes "\r\n" ++ z ++ codes "\r\n") numbered
-    ∙ regroup (codes "Version: ") (spelled_id u.id) (codes "\r\nParents:") (parents_text u.parents) (codes "\r\n") (codes "Patches: ") (decimal count) (flat_map patch_text patches)
+    s ∙ same ∙ ap (λ z. codes "Version: " ++ spelled_id u.id ++ codes "\r\nParents:" ++ list_text u.parents ++ codes "\r\n" ++ z ++ codes "\r\n") numbered
+    ∙ regroup (codes "Version: ") (spelled_id u.id) (codes "\r\nParents:") (list_text u.parents) (codes "\r\n") (codes "Patches: ") (decimal count) (flat_map patch_text patches)
     ∙ ap (λ z. z ++ put_content (Patches patches)) (sym head_is) in
     c ∙ ap (drop (length head)) whole ∙ drop_at head (put_content (Patches patches)) (length head) refl ∙ ap put_content (sym p)
 

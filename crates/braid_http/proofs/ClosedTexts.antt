@@ -10,7 +10,7 @@ use Rattle.braid_ids.specs.Lists.{Lacks}
 use Rattle.braid_ids.specs.Identifiers.{IsIdentifier, IsPrintable, escaped, spelled_id}
 use Rattle.braid_ids.proofs.Splits.{lacks_append}
 use Rattle.braid_ids.proofs.Spelled.{alone, after, escape_of}
-use Rattle.braid_change.specs.Spellings.{parents_text as list_text}
+use Rattle.braid_change.specs.Spellings.{list_text}
 use Rattle.braid_http.specs.declared.looks.Look.{Look}
 use Rattle.braid_http.specs.declared.reply.Reply.{Reply}
 use Rattle.braid_http.specs.declared.reply.Reply.TheVariants.{Text, Stored, Error, Subscription}

@@ -3,7 +3,7 @@ use Rattle.std.specs.Prelude.{ℕ, List, [], ◌∷◌, ◌++◌, length, flat_m
 use Rattle.braid_ids.specs.Identifiers.{spelled_id}
 use Rattle.braid_change.specs.declared.change.Change.{Change}
 use Rattle.braid_change.specs.declared.change.Change.TheVariants.{Body, Patches}
-use Rattle.braid_change.specs.Spellings.{parents_text as list_text, patch_text}
+use Rattle.braid_change.specs.Spellings.{list_text, patch_text}
 use Rattle.braid_http.specs.declared.call.Call.{Call}
 use Rattle.braid_http.specs.declared.call.Call.TheVariants.{Subscribe, Put}
 use Rattle.braid_http.specs.Replies.{type_line, ended}

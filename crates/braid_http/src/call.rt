@@ -1,6 +1,6 @@
 ghost use Rattle.std.specs.Prelude.{◌≡◌, ◌++◌, List, length, codes, decimal, flat_map, IfOk, OnOk};
 ghost use Rattle.braid_ids.specs.Identifiers.{spelled_id};
-ghost use Rattle.braid_change.specs.Spellings.{parents_text as list_text};
+ghost use Rattle.braid_change.specs.Spellings.{list_text};
 ghost use Rattle.braid_change.specs.declared.patch.Patch.{Patch};
 ghost use Rattle.braid_change.specs.declared.change.Change.TheVariants as changes;
 ghost use Rattle.braid_http.specs.Replies.{ended};

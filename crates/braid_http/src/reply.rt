@@ -1,6 +1,6 @@
 ghost use Rattle.std.specs.Prelude.{◌≡◌, ◌++◌, false, true, codes, decimal, flat_map, IfOk, OnOk, ◌==◌, if◌then◌else◌};
 ghost use Rattle.braid_ids.specs.Identifiers.{spelled_id};
-ghost use Rattle.braid_change.specs.Spellings.{parents_text as list_text};
+ghost use Rattle.braid_change.specs.Spellings.{list_text};
 ghost use Rattle.braid_http.specs.Replies.{phrase_of, allow_lines, close_lines, ended, head_lines, content_of, reply_text, IsWritable, IsClosable};
 ghost use Rattle.braid_http.specs.declared.reply.Reply.{Reply as Replying};
 ghost use Rattle.braid_http.specs.declared.reply.Reply.TheVariants as replies;

@@ -1,11 +1,11 @@
 -- The answer of a history to an update, and what the update needs.
-use Rattle.std.specs.Prelude.{◌≡◌, ℕ, ◌<◌, ◌≤◌, List, length, reverse, Some, Contains}
+use Rattle.std.specs.Prelude.{◌≡◌, ℕ, ◌<◌, ◌≤◌, List, length, reverse, Option, Some, Contains}
 use Rattle.braid_change.specs.Updates.{UpdateView}
 use Rattle.braid_change.specs.Splices.{first_past}
 use Rattle.braid_graph.specs.Entries.{Holds, HoldsAll}
 use Rattle.braid_graph.specs.Ancestries.{IsLeastUnheld}
 use Rattle.braid_text.specs.Histories.{graph_of, MayFollow, text_at}
-use Rattle.braid_text.specs.Refusals.{needs_in, room_in, answer_in}
+use Rattle.braid_text.specs.Refusals.{needs_in, room_in, refusal_in, answer_in}
 use Rattle.braid_text.specs.declared.room.Room.{Room}
 use Rattle.braid_text.specs.declared.room.Which.{Which}
 use Rattle.braid_text.specs.declared.room.Which.TheVariants.{Resources, Versions, Elements, Deletions, Width}
@@ -19,6 +19,10 @@ needs_of H u = needs_in (reverse H) u
 -- what limits leave beside a history
 abbrev pub room_of : Room → List UpdateView → Room
 room_of limits H = room_in limits (reverse H)
+
+-- the refusal of an update by a history, whatever room there is
+abbrev pub refusal_to : List UpdateView → UpdateView → Option Accept
+refusal_to H u = refusal_in (reverse H) u
 
 -- the answer of a history with this room to an update
 abbrev pub answer_to : Room → List UpdateView → UpdateView → Accept

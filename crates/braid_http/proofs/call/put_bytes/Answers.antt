@@ -1,6 +1,6 @@
 use Rattle.std.proofs.Common.{◌∙◌, ◌++◌, ap, length, flat_map, codes, decimal}
 use Rattle.braid_ids.specs.Identifiers.{spelled_id}
-use Rattle.braid_change.specs.Spellings.{parents_text as list_text}
+use Rattle.braid_change.specs.Spellings.{list_text}
 use Rattle.braid_http.specs.Replies.{type_line, ended}
 use Rattle.braid_http.specs.Calls.{put_content, count_lines}
 use Rattle.braid_http.proofs.CallTexts.{put_lines}

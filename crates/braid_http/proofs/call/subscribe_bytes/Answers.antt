@@ -1,5 +1,5 @@
 use Rattle.std.proofs.Common.{◌∙◌, ◌++◌, ap, codes}
-use Rattle.braid_change.specs.Spellings.{parents_text as list_text}
+use Rattle.braid_change.specs.Spellings.{list_text}
 use Rattle.braid_http.proofs.CallTexts.{subscribe_lines}
 use Rattle.braid_http.proofs.call.subscribe_bytes.Goals as goal
 

@@ -1,5 +1,5 @@
 use Rattle.std.proofs.Common.{◌≡◌, ◌∙◌, ◌++◌, ap, length, codes, decimal, encode_utf8_all}
-use Rattle.braid_change.specs.Spellings.{parents_text as list_text}
+use Rattle.braid_change.specs.Spellings.{list_text}
 use Rattle.braid_http.specs.Replies.{type_line}
 use Rattle.braid_http.proofs.ReplyTexts.{six, text_lines}
 use Rattle.braid_http.proofs.reply.text_bytes.Goals as goal
