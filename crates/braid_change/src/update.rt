@@ -33,7 +33,8 @@ impl Model for Update {
 
     ghost view = { λ update. record { id = update.id; parents = update.parents; change = update.change } };
 
-    ghost invariant = { λ update. IsUpdate (record { id = update.id; parents = update.parents; change = update.change }) };
+    ghost invariant = { λ update. IsUpdate
+        (record { id = update.id; parents = update.parents; change = update.change }) };
 }
 
 /// Why parts make no update: the first of these that holds, in this order. Patches are numbered from 0.

@@ -47,7 +47,8 @@ pub fn order_does_not_matter()
 /// Bytes and the way in which reading ended have one status and one text.
 pub fn one_text()
     ensures law { (ending : Ending) (bytes : List ℕ) (status other : Ended) (text more : List ℕ)
-        → IsCheckText ending bytes status text → IsCheckText ending bytes other more → (status ≡ other) × (text ≡ more) }
+        → IsCheckText ending bytes status text → IsCheckText ending bytes other more → (status ≡ other)
+        × (text ≡ more) }
 {}
 
 /// Bytes that show a fault, or an update that is refused, have a text for no other end; and they show it whatever

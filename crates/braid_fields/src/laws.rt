@@ -79,7 +79,8 @@ pub fn canonical_lines()
     ensures patches { (n : ℕ) → n < 2 ^ 64 → field_of (patches_line n)
         ≡ Some (record { name = codes "Patches"; value = decimal n }) }
     ensures range { (start end : ℕ) → start < 2 ^ 64 → end < 2 ^ 64
-        → field_of (range_line start end) ≡ Some (record { name = codes "Content-Range"; value = range_text start end }) }
+        → field_of (range_line start end)
+        ≡ Some (record { name = codes "Content-Range"; value = range_text start end }) }
 {}
 
 /// The heads of a canonical spelling have the plans of its update and of its patches.

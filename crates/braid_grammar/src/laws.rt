@@ -68,7 +68,8 @@ pub fn canonical_is_read()
 /// The reader of whole lists takes for the next update exactly what is spelled after a gap, and leaves the rest.
 pub fn next_is_spelled()
     ensures found { (u : UpdateView) (at to : ℕ) (bytes rest : List ℕ) → next_at at bytes ≡ Whole u to rest
-        → (gap : List ℕ) × (first : List ℕ) × IsGap gap × SpellsUpdate u first × (bytes ≡ gap ++ (first ++ rest)) × (to ≡ at + length gap + length first) }
+        → (gap : List ℕ) × (first : List ℕ) × IsGap gap × SpellsUpdate u first × (bytes ≡ gap ++ (first ++ rest))
+        × (to ≡ at + length gap + length first) }
     ensures spelled { (u : UpdateView) (at : ℕ) (gap first rest : List ℕ) → IsGap gap → SpellsUpdate u first
         → next_at at (gap ++ (first ++ rest)) ≡ Whole u (at + length gap + length first) rest }
 {}

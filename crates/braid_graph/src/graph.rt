@@ -36,7 +36,8 @@ impl Model for Graph {
 
     ghost view = { λ graph. entries_in graph.entries.entries };
 
-    ghost invariant = { λ graph. IsWhole (entries_in graph.entries.entries) graph.links.items graph.heads graph.starts.items };
+    ghost invariant = { λ graph. IsWhole (entries_in graph.entries.entries) graph.links.items graph.heads
+        graph.starts.items };
 }
 
 impl Graph {

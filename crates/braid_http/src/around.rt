@@ -125,7 +125,8 @@ impl LineBegun {
 
 /// Behind a byte of a chunk's line.
 fn in_line(line: &mut LineBegun, byte: u8) -> Next
-    ensures comes { (content b : List ℕ) → IsAround Framing.Line line.old content b → Comes result line.new content (b ++ byte ∷ []) }
+    ensures comes { (content b : List ℕ) → IsAround Framing.Line line.old content b
+        → Comes result line.new content (b ++ byte ∷ []) }
     ensures falls { Falls Framing.Line line.old result line.new }
 {
     match line.add(byte) {
@@ -138,7 +139,8 @@ fn in_line(line: &mut LineBegun, byte: u8) -> Next
 
 /// What a byte more makes of a line of a trailer that has come in part; nothing, where it ends the trailer.
 fn line_after(line: TrailerLine, byte: u8) -> Option<TrailerLine>
-    ensures turns { (full : List (List ℕ)) (part : List ℕ) → AllByRecursion IsFullLine full → IsPartOf line part → Turns result full part byte }
+    ensures turns { (full : List (List ℕ)) (part : List ℕ) → AllByRecursion IsFullLine full → IsPartOf line part
+        → Turns result full part byte }
 {
     match line {
         TrailerLine::Empty => {
@@ -183,7 +185,8 @@ fn in_trailer(left: usize, line: TrailerLine, byte: u8) -> Next
 
 /// Behind a byte of what stands around data.
 fn after(framing: Framing, line: &mut LineBegun, byte: u8) -> Next
-    ensures comes { (content b : List ℕ) → IsAround framing line.old content b → Comes result line.new content (b ++ byte ∷ []) }
+    ensures comes { (content b : List ℕ) → IsAround framing line.old content b
+        → Comes result line.new content (b ++ byte ∷ []) }
     ensures falls { Falls framing line.old result line.new }
 {
     match framing {
@@ -214,7 +217,8 @@ pub fn pass_framing<K: Link>(
     wire: &mut Wire,
     link: &mut K,
 ) -> Passed
-    ensures passes { Passes result framing line.old line.new wire.old.held wire.new.held (K.intake link.old) (K.intake link.new) }
+    ensures passes { Passes result framing line.old line.new wire.old.held wire.new.held (K.intake link.old)
+        (K.intake link.new) }
     ensures over { wire.new.over ≡ wire.old.over }
     ensures kept { K.outflow link.new ≡ K.outflow link.old }
 {

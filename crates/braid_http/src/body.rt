@@ -108,9 +108,11 @@ impl Body {
     pub fn read<K: Link>(&mut self, wire: &mut Wire, link: &mut K, buf: &mut [u8]) -> Read
         requires some { 0 < length buf.old }
         ensures reads { (content b : List ℕ) → HasRead self.old content b → (IsOver self.old.state → ⊥)
-            → ReadsBody result buf.new self.new content b wire.old.held wire.new.held (K.intake link.old) (K.intake link.new) }
+            → ReadsBody result buf.new self.new content b wire.old.held wire.new.held (K.intake link.old)
+            (K.intake link.new) }
         ensures answer { IsAnswer result buf.new self.old.faults self.new.faults }
-        ensures again { IsOver self.old.state → (result ≡ Read.End) × (self.new ≡ self.old) × (wire.new ≡ wire.old) × (link.new ≡ link.old) }
+        ensures again { IsOver self.old.state → (result ≡ Read.End) × (self.new ≡ self.old) × (wire.new ≡ wire.old)
+            × (link.new ≡ link.old) }
         ensures kind { self.new.kind ≡ self.old.kind }
         ensures over { wire.new.over ≡ wire.old.over }
         ensures kept { K.outflow link.new ≡ K.outflow link.old }
@@ -176,7 +178,8 @@ impl Body {
     ) -> Read
         requires some { 0 < length buf.old }
         ensures reads { (content b : List ℕ) → IsIn self.old.kind next self.old.line content b
-            → ReadsBody result buf.new self.new content b wire.old.held wire.new.held (K.intake link.old) (K.intake link.new) }
+            → ReadsBody result buf.new self.new content b wire.old.held wire.new.held (K.intake link.old)
+            (K.intake link.new) }
         ensures answer { IsAnswer result buf.new self.old.faults self.new.faults }
         ensures kind { self.new.kind ≡ self.old.kind }
         ensures over { wire.new.over ≡ wire.old.over }

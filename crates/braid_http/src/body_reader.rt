@@ -43,7 +43,8 @@ impl<'b, K: Link> BodyReader<'b, K> {
     /// How far the body was read. It takes no memory.
     pub fn state(&self) -> BodyState
         ensures value { result ≡ self.now.body.state }
-        ensures tells { (content b : List ℕ) → HasRead self.now.body content b → Tells result self.now.body.kind content b }
+        ensures tells { (content b : List ℕ) → HasRead self.now.body content b
+            → Tells result self.now.body.kind content b }
     {
         self.body.state()
     }

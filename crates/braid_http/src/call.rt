@@ -85,7 +85,8 @@ fn put_bytes(alloc: Global, server: &Bytes, path: &Bytes, update: &Update) -> Re
 
 /// Puts the rest of a first line, behind its method, and the line `Host` at the end.
 fn push_start(out: &mut Bytes, path: &Bytes, server: &Bytes) -> Result<(), Memory>
-    ensures ok { OnOk result (out.new ≡ out.old ++ (path.now ++ (codes " HTTP/1.1\r\nHost: " ++ (server.now ++ codes "\r\n")))) }
+    ensures ok { OnOk result
+        (out.new ≡ out.old ++ (path.now ++ (codes " HTTP/1.1\r\nHost: " ++ (server.now ++ codes "\r\n")))) }
 {
     out.push(path.get())?;
     out.push(b" HTTP/1.1\r\nHost: ")?;
@@ -152,7 +153,8 @@ fn content_of(alloc: Global, update: &Update) -> Result<Bytes, Memory>
 
 /// The content of a PUT of patches: what the canonical spelling has behind its head.
 fn patches_content(alloc: Global, update: &Update, count: usize) -> Result<Bytes, Memory>
-    requires patches { (patches : List Patch) × (update.now.change ≡ changes.Patches patches) × (count ≡ length patches) }
+    requires patches { (patches : List Patch) × (update.now.change ≡ changes.Patches patches)
+        × (count ≡ length patches) }
     ensures ok { IfOk result (λ bytes. bytes ≡ put_content update.now.change) }
 {
     let spelled = canon(alloc, update)?;

@@ -89,7 +89,8 @@ pub fn size_of_line(line: &[u8]) -> Option<u64>
 
 /// At a chunk's line, behind `total` bytes of data.
 fn at_line(bytes: &[u8], total: usize) -> Fed
-    ensures steps { (passed out : List ℕ) → length out ≡ total → IsAtLine passed out → Leaves result passed bytes.now out out }
+    ensures steps { (passed out : List ℕ) → length out ≡ total → IsAtLine passed out
+        → Leaves result passed bytes.now out out }
 {
     let Some(line) = cut_line(bytes) else {
         return Fed::Open(Place::Line);

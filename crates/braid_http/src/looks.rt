@@ -88,7 +88,8 @@ fn after_blank(bytes: &[u8]) -> Option<&[u8]>
 
 /// The bytes after the empty lines at the front.
 fn pass_blank(bytes: &[u8]) -> &[u8]
-    ensures passed { (blank : List (List ℕ)) × AllByRecursion IsEmptyLine blank × (bytes.now ≡ lines blank ++ result.now) }
+    ensures passed { (blank : List (List ℕ)) × AllByRecursion IsEmptyLine blank
+        × (bytes.now ≡ lines blank ++ result.now) }
     ensures full { BeginsFull result.now }
 {
     let mut rest = bytes;

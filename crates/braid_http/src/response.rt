@@ -113,7 +113,8 @@ fn kind_by_coding(value: &[u8]) -> Result<BodyKind, Refusal>
 
 /// What the fields of a reply announce.
 fn kind_by_fields(fields: &HeaderMap<HeaderValue>) -> Result<BodyKind, Refusal>
-    ensures { result ≡ kind_by_values (get_all fields.now (codes "content-length")) (get_all fields.now (codes "transfer-encoding")) }
+    ensures { result ≡ kind_by_values (get_all fields.now (codes "content-length"))
+        (get_all fields.now (codes "transfer-encoding")) }
 {
     let mut lengths = fields.get_all("content-length").iter();
     let mut codings = fields.get_all("transfer-encoding").iter();
@@ -146,7 +147,8 @@ fn kind_of(status: u16, fields: &HeaderMap<HeaderValue>) -> Result<BodyKind, Ref
 /// The reply's head that ends at a place.
 fn judge_reply(alloc: Global, bytes: &[u8], look: &HeadLook, end: usize) -> Result<ReplyHead, Stop>
     requires at { IsHeadAt end look.now bytes.now }
-    ensures ok { IfOk result (λ head. (end ≤ length bytes.now) × IsReplyDecided (replied head) bytes.now (drop end bytes.now)) }
+    ensures ok { IfOk result
+        (λ head. (end ≤ length bytes.now) × IsReplyDecided (replied head) bytes.now (drop end bytes.now)) }
     ensures err { IfErr result (λ stop. JudgesReply stop bytes.now) }
 {
     if end > MOST_HEAD {

@@ -53,8 +53,10 @@ impl Wire {
     /// source ended inside a request. `ReadFault`: the link's count of failed reads rose. After `Refused`, `Torn`,
     /// `ReadFault` and `Memory` the answer is the same for good; nothing is read then, and no memory taken.
     pub fn ask<K: Link>(&mut self, alloc: Global, link: &mut K) -> Asked
-        ensures again { IfSome self.old.over (λ stop. (result ≡ answer_of stop) × (self.new ≡ self.old) × (link.new ≡ link.old)) }
-        ensures asks { IfNone self.old.over (Asks result self.old.held self.new.held (K.intake link.old) (K.intake link.new)) }
+        ensures again { IfSome self.old.over
+            (λ stop. (result ≡ answer_of stop) × (self.new ≡ self.old) × (link.new ≡ link.old)) }
+        ensures asks { IfNone self.old.over
+            (Asks result self.old.held self.new.held (K.intake link.old) (K.intake link.new)) }
         ensures over { IfNone self.old.over (self.new.over ≡ over_of result) }
         ensures kept { K.outflow link.new ≡ K.outflow link.old }
     {
@@ -82,8 +84,10 @@ impl Wire {
     /// `Refused`, `Torn`, `ReadFault` and `Memory` the answer is the same for good; nothing is read then, and no memory
     /// taken.
     pub fn reply<K: Link>(&mut self, alloc: Global, link: &mut K) -> Replied
-        ensures again { IfSome self.old.over (λ stop. (result ≡ replied_of stop) × (self.new ≡ self.old) × (link.new ≡ link.old)) }
-        ensures replies { IfNone self.old.over (Replies result self.old.held self.new.held (K.intake link.old) (K.intake link.new)) }
+        ensures again { IfSome self.old.over
+            (λ stop. (result ≡ replied_of stop) × (self.new ≡ self.old) × (link.new ≡ link.old)) }
+        ensures replies { IfNone self.old.over
+            (Replies result self.old.held self.new.held (K.intake link.old) (K.intake link.new)) }
         ensures over { IfNone self.old.over (self.new.over ≡ over_of_reply result) }
         ensures kept { K.outflow link.new ≡ K.outflow link.old }
     {

@@ -43,7 +43,8 @@ impl Model for MemDoor {
       link_write_faults = a.link_write_faults;
     } };
 
-    ghost invariant = { λ a. All IsUnused a.left.items × (length a.served.items + a.up + length a.left.items ≤ vec_capacity a.served) };
+    ghost invariant = { λ a. All IsUnused a.left.items
+        × (length a.served.items + a.up + length a.left.items ≤ vec_capacity a.served) };
 }
 
 impl MemDoor {

@@ -93,7 +93,8 @@ impl Port for MemPort {
         take: u32,
     ) -> Opened<MemDoor, MemBell>
         ensures open { Opens doorway_of ringing_of
-            (record { server = server.now; workers = workers; take = take }) result (porting_of self.old) (porting_of self.new) }
+            (record { server = server.now; workers = workers; take = take }) result (porting_of self.old)
+            (porting_of self.new) }
         ensures exact { MemOpens
             (record { server = server.now; workers = workers; take = take }) result self.old self.new }
     {

@@ -48,5 +48,6 @@ pub trait Port: Drop {
         take: u32,
     ) -> Opened<Self::Door, Self::Bell>
         ensures open { Opens Self.Door.doorway Self.Bell.ringing
-            (record { server = server.now; workers = workers; take = take }) result (porting self.old) (porting self.new) };
+            (record { server = server.now; workers = workers; take = take }) result (porting self.old)
+            (porting self.new) };
 }

@@ -61,4 +61,3 @@ greatest_number a (u ∷ us) = max (unwrap_or (number a u.id) 0) (greatest_numbe
 -- the limits of a replica but for the width, and this limit of the width
 abbrev pub limits_with : ℕ → Room
 limits_with width = record replica_limits { width = width }
-

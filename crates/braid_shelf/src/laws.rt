@@ -29,7 +29,8 @@ pub fn one_fault()
 /// A value is a list or has a fault.
 pub fn one_of_both()
     ensures law { (value : List ℕ)
-        → ((members : List Member) × SpellsList members value) ⊎ ((at : ℕ) × (kind : ShelfKind) × IsListFault value at kind) }
+        → ((members : List Member) × SpellsList members value)
+        ⊎ ((at : ℕ) × (kind : ShelfKind) × IsListFault value at kind) }
 {}
 
 /// Identifiers with a comma and a space between them are the list of them as Strings.

@@ -15,7 +15,8 @@ use braid_ids::Memory;
 pub fn set_at(blocks: &mut Vec<Block>, sums: &mut Vec<Sum>, spot: Spot, run: Run) -> Run
     requires there { IsSpot blocks.old.items spot (λ b. spot.index < length b) }
     requires sums { sums.old.items ≡ map sum_of blocks.old.items }
-    requires few { undeleted_in (slice_set (flat blocks.old.items) (before blocks.old.items spot.block + spot.index) run) < 2 ^ 32 }
+    requires few { undeleted_in
+        (slice_set (flat blocks.old.items) (before blocks.old.items spot.block + spot.index) run) < 2 ^ 32 }
     ensures list { flat blocks.new.items
         ≡ slice_set (flat blocks.old.items) (before blocks.old.items spot.block + spot.index) run }
     ensures old { slice_get (flat blocks.old.items) (before blocks.old.items spot.block + spot.index) ≡ Some result }
@@ -60,7 +61,8 @@ pub fn insert_at(blocks: &mut Vec<Block>, sums: &mut Vec<Sum>, spot: Spot, run: 
 pub fn remove_at(blocks: &mut Vec<Block>, sums: &mut Vec<Sum>, spot: Spot) -> Run
     requires there { IsSpot blocks.old.items spot (λ b. spot.index < length b) }
     requires sums { sums.old.items ≡ map sum_of blocks.old.items }
-    ensures list { flat blocks.new.items ≡ remove (flat blocks.old.items) (before blocks.old.items spot.block + spot.index) }
+    ensures list { flat blocks.new.items ≡ remove (flat blocks.old.items)
+        (before blocks.old.items spot.block + spot.index) }
     ensures old { slice_get (flat blocks.old.items) (before blocks.old.items spot.block + spot.index) ≡ Some result }
     ensures sums { sums.new.items ≡ map sum_of blocks.new.items }
     ensures small { All IsFilled blocks.old.items → All IsFilled blocks.new.items }
@@ -128,7 +130,8 @@ fn split(blocks: &mut Vec<Block>, sums: &mut Vec<Sum>, spot: Spot) -> Spot
     requires spare { length blocks.old.items < vec_capacity blocks.old }
     requires spare_sums { length sums.old.items < vec_capacity sums.old }
     ensures list { flat blocks.new.items ≡ flat blocks.old.items }
-    ensures spot { before blocks.new.items result.block + result.index ≡ before blocks.old.items spot.block + spot.index }
+    ensures spot { before blocks.new.items result.block + result.index
+        ≡ before blocks.old.items spot.block + spot.index }
     ensures there { IsSpot blocks.new.items result (λ b. result.index ≤ length b) }
     ensures roomy { IsSpot blocks.new.items result (λ b. length b < 256) }
     ensures sums { sums.new.items ≡ map sum_of blocks.new.items }
@@ -157,12 +160,14 @@ pub fn make_room(blocks: &mut Vec<Block>, sums: &mut Vec<Sum>, spot: Spot) -> Sp
     requires spare { weight blocks.old.items + 128 * length blocks.old.items < 128 * vec_capacity blocks.old }
     requires spare_sums { weight blocks.old.items + 128 * length blocks.old.items < 128 * vec_capacity sums.old }
     ensures list { flat blocks.new.items ≡ flat blocks.old.items }
-    ensures spot { before blocks.new.items result.block + result.index ≡ before blocks.old.items spot.block + spot.index }
+    ensures spot { before blocks.new.items result.block + result.index
+        ≡ before blocks.old.items spot.block + spot.index }
     ensures there { IsSpot blocks.new.items result (λ b. result.index ≤ length b) }
     ensures roomy { IsSpot blocks.new.items result (λ b. length b < 256) }
     ensures sums { sums.new.items ≡ map sum_of blocks.new.items }
     ensures small { All IsFilled blocks.new.items }
-    ensures weight { weight blocks.new.items + 128 * length blocks.new.items ≡ weight blocks.old.items + 128 * length blocks.old.items }
+    ensures weight { weight blocks.new.items + 128 * length blocks.new.items
+        ≡ weight blocks.old.items + 128 * length blocks.old.items }
     ensures capacity { vec_capacity blocks.new ≡ vec_capacity blocks.old }
     ensures sums_capacity { vec_capacity sums.new ≡ vec_capacity sums.old }
 {

@@ -78,11 +78,13 @@ pub fn note_deletion(runs: &mut Runs, links: &mut Vec<Link>, at: At, by: u32)
     requires there { (i : ℕ) × IsHeldAt runs.old.list at i }
     requires small { All IsSmall runs.old.list }
     requires linked { AreLinked links.old.items }
-    requires fitting { (versions : ℕ) × (chars : List ℕ) × AreFitting versions chars (chains_of links.old.items) runs.old.list }
+    requires fitting { (versions : ℕ) × (chars : List ℕ)
+        × AreFitting versions chars (chains_of links.old.items) runs.old.list }
     requires few { vec_len links.old + 1 < 2 ^ 32 }
     requires links_fit { vec_len links.old < vec_capacity links.old }
     requires roomy { 1 < runs.old.room }
-    ensures marked { (versions : ℕ) (chars : List ℕ) → AreFitting versions chars (chains_of links.old.items) runs.old.list
+    ensures marked { (versions : ℕ) (chars : List ℕ)
+        → AreFitting versions chars (chains_of links.old.items) runs.old.list
         → AreFitting versions chars (chains_of links.new.items) runs.new.list
         × MarksOne (spelled (spans_of chars (chains_of links.old.items) runs.old.list))
         (spelled (spans_of chars (chains_of links.new.items) runs.new.list)) at by }
@@ -106,14 +108,16 @@ pub fn note_deletions(runs: &mut Runs, links: &mut Vec<Link>, at: At, by: u32, m
     requires there { (i : ℕ) × IsHeldAt runs.old.list at i }
     requires small { All IsSmall runs.old.list }
     requires linked { AreLinked links.old.items }
-    requires fitting { (versions : ℕ) × (chars : List ℕ) × AreFitting versions chars (chains_of links.old.items) runs.old.list }
+    requires fitting { (versions : ℕ) × (chars : List ℕ)
+        × AreFitting versions chars (chains_of links.old.items) runs.old.list }
     requires few { vec_len links.old + 1 < 2 ^ 32 }
     requires links_fit { vec_len links.old < vec_capacity links.old }
     requires some { 0 < most }
     requires roomy { 1 < runs.old.room }
     ensures some { 0 < result }
     ensures most { result ≤ most }
-    ensures marked { (versions : ℕ) (chars : List ℕ) → AreFitting versions chars (chains_of links.old.items) runs.old.list
+    ensures marked { (versions : ℕ) (chars : List ℕ)
+        → AreFitting versions chars (chains_of links.old.items) runs.old.list
         → AreFitting versions chars (chains_of links.new.items) runs.new.list
         × MarksEach (spelled (spans_of chars (chains_of links.old.items) runs.old.list))
         (spelled (spans_of chars (chains_of links.new.items) runs.new.list)) at.version at.ordinal result by }

@@ -187,8 +187,10 @@ impl Document for SpanDocument {
         requires roomy { HasRoomFor self.old.room 0 (length text.now) 0 }
         requires fits { ordinal + length text.now < 2 ^ 32 }
         ensures stamps { self.new.stamps ≡ self.old.stamps }
-        ensures put { PutsRun (rows_of (spelled self.old.runs)) (rows_of (spelled self.new.runs)) (length self.old.stamps - 1) after ordinal text.now }
-        ensures placed { ListsWithRun self.old.stamps (rows_of (spelled self.old.runs)) (rows_of (spelled self.new.runs)) after ordinal text.now }
+        ensures put { PutsRun (rows_of (spelled self.old.runs)) (rows_of (spelled self.new.runs))
+            (length self.old.stamps - 1) after ordinal text.now }
+        ensures placed { ListsWithRun self.old.stamps (rows_of (spelled self.old.runs))
+            (rows_of (spelled self.new.runs)) after ordinal text.now }
         ensures deletions { deletions_of (spelled self.new.runs) ≡ deletions_of (spelled self.old.runs) }
         ensures room { Spends self.old.room self.new.room 0 (length text.now) 0 }
         ensures known { AreKnown self.new.stamps (rows_of (spelled self.new.runs)) }
@@ -216,9 +218,11 @@ impl Document for SpanDocument {
     fn delete(&mut self, at: At)
         requires begun { 0 < length self.old.stamps }
         requires there { HasPlace (rows_of (spelled self.old.runs)) at }
-        requires once { ¬ (Contains (deletions_of (spelled self.old.runs)) (record { at = at; by = length self.old.stamps - 1 })) }
+        requires once { ¬ (Contains (deletions_of (spelled self.old.runs))
+            (record { at = at; by = length self.old.stamps - 1 })) }
         requires roomy { HasRoomFor self.old.room 0 0 1 }
-        ensures deletions { PutsOne (deletions_of (spelled self.old.runs)) (record { at = at; by = length self.old.stamps - 1 })
+        ensures deletions { PutsOne (deletions_of (spelled self.old.runs))
+            (record { at = at; by = length self.old.stamps - 1 })
             (deletions_of (spelled self.new.runs)) }
         ensures stamps { self.new.stamps ≡ self.old.stamps }
         ensures rows { rows_of (spelled self.new.runs) ≡ rows_of (spelled self.old.runs) }

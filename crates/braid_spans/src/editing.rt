@@ -12,8 +12,10 @@ pub fn cut(runs: &mut Runs, index: usize, k: u32)
     requires inner { IsSomeAnd (slice_get runs.old.list index) (λ r. (k < r.len) × IsSmall r) }
     requires roomy { 0 < runs.old.room }
     ensures alike { SpellsAlike runs.old.list runs.new.list }
-    ensures front { IsSomeAnd (slice_get runs.old.list index) (λ r. slice_get runs.new.list index ≡ Some (front_of r k)) }
-    ensures rest { IsSomeAnd (slice_get runs.old.list index) (λ r. slice_get runs.new.list (index + 1) ≡ Some (rest_of r k)) }
+    ensures front { IsSomeAnd (slice_get runs.old.list index)
+        (λ r. slice_get runs.new.list index ≡ Some (front_of r k)) }
+    ensures rest { IsSomeAnd (slice_get runs.old.list index)
+        (λ r. slice_get runs.new.list (index + 1) ≡ Some (rest_of r k)) }
     ensures count { length runs.new.list ≡ length runs.old.list + 1 }
     ensures room { runs.old.room ≤ runs.new.room + 1 }
 {
@@ -85,7 +87,8 @@ pub fn set_apart(runs: &mut Runs, index: usize, at: At, most: u32) -> usize
 /// Passes the first element of run number `index` to the run before it, at whose end it goes on.
 pub fn pass_first(runs: &mut Runs, index: usize)
     requires behind { 0 < index }
-    requires next { IsSomeAnd (slice_get runs.old.list (index - 1)) (λ l. IsSomeAnd (slice_get runs.old.list index) (IsNext l)) }
+    requires next { IsSomeAnd (slice_get runs.old.list (index - 1))
+        (λ l. IsSomeAnd (slice_get runs.old.list index) (IsNext l)) }
     requires small { All IsSmall runs.old.list }
     ensures passed { PassesFirst runs.old.list runs.new.list index }
     ensures count { length runs.new.list ≤ length runs.old.list }

@@ -62,7 +62,8 @@ pub fn put_run(
     requires some { 0 < length text.now }
     requires ordinals { first.ordinal + length text.now < 2 ^ 32 }
     requires small { All IsSmall runs.old.list }
-    requires fitting { (chains : List (List ℕ)) × AreFitting (length versions.now) chars.old.items chains runs.old.list }
+    requires fitting { (chains : List (List ℕ))
+        × AreFitting (length versions.now) chars.old.items chains runs.old.list }
     requires few { vec_len chars.old + length text.now < 2 ^ 32 }
     requires size { size_in runs.old.list ≡ vec_len chars.old }
     requires chars_fit { vec_len chars.old + length text.now ≤ vec_capacity chars.old }

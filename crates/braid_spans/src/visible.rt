@@ -67,7 +67,8 @@ pub struct Piece {
 pub fn push_piece(places: &mut Vec<At>, run: &Run, piece: &mut Piece) -> Result<(), Memory>
     requires ordinals { run.now.first.ordinal + run.now.len < 2 ^ 32 }
     ensures ok { OnOk result (places.new.items ≡ places.old.items
-        ++ take piece.old.take (drop piece.old.skip (places_from run.now.first.version run.now.first.ordinal run.now.len))) }
+        ++ take piece.old.take
+        (drop piece.old.skip (places_from run.now.first.version run.now.first.ordinal run.now.len))) }
     ensures skip { piece.new.skip ≡ piece.old.skip - run.now.len }
     ensures take { OnOk result (piece.new.take ≡ piece.old.take - (run.now.len - piece.old.skip)) }
 {
@@ -122,7 +123,8 @@ pub fn push_text(
     requires linked { AreLinked links.now }
     requires within { All (λ (r : Run). reach r.newest ≤ length links.now) runs.now }
     requires chars { All (λ (r : Run). r.start + r.len ≤ length chars.now) runs.now }
-    ensures ok { OnOk result (text.new.items ≡ text.old.items ++ seen_chars marks.now chars.now (chains_of links.now) runs.now) }
+    ensures ok { OnOk result
+        (text.new.items ≡ text.old.items ++ seen_chars marks.now chars.now (chains_of links.now) runs.now) }
 {
     for run in runs {
         if is_visible(marks, links, run) {

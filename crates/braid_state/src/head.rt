@@ -152,7 +152,8 @@ fn read_counts<'a>(bytes: &'a [u8]) -> Result<(u64, u64, &'a [u8]), Stop<'a>>
 fn count_line(line: Line, bytes: &[u8]) -> Option<(u64, &[u8])>
     ensures found { MatchOption result ((digits more : List ℕ) → IsCount digits
         → bytes.now ≢ name_of line ++ (digits ++ 10 ∷ more))
-        (λ cut. (digits : List ℕ) × IsCount digits × (cut.0 ≡ min (count_of digits) 524_289) × (bytes.now ≡ name_of line ++ (digits ++ 10 ∷ cut.1.now))) }
+        (λ cut. (digits : List ℕ) × IsCount digits × (cut.0 ≡ min (count_of digits) 524_289)
+        × (bytes.now ≡ name_of line ++ (digits ++ 10 ∷ cut.1.now))) }
 {
     let Some((digits, rest)) = read_line(line, bytes) else {
         return None;

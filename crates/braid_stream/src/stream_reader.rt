@@ -41,7 +41,8 @@ impl<S: Source> StreamReader<S> {
         ensures readable { IsReadable (reader_of self.old) }
         ensures answers { (us : List UpdateView) (bytes : List ℕ) → GoesOn (reader_of self.old)
             → HasTaken us (reader_of self.old) bytes
-            → Answers us bytes result (reader_of self.new) (S.intake (source_of self.old)) (S.intake (source_of self.new)) }
+            → Answers us bytes result (reader_of self.new) (S.intake (source_of self.old))
+            (S.intake (source_of self.new)) }
         ensures at_hand { (us : List UpdateView) (bytes : List ℕ) → GoesOn (reader_of self.old)
             → HasTaken us (reader_of self.old) bytes
             → HaveAnswer us bytes → source_of self.new ≡ source_of self.old }

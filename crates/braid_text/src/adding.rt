@@ -21,7 +21,8 @@ pub fn add_version(doc: &mut SpanDocument, id: Id, resolved: &Resolved)
     ensures stamps { doc.new.stamps ≡ doc.old.stamps ++ record { id = id; level = resolved.now.level } ∷ [] }
     ensures placed { ListsWithRuns doc.new.stamps (rows_in doc.old) (rows_in doc.new) resolved.now.runs.items }
     ensures deletions { IsPermutation
-        (row_deletions_in doc.old ++ map (deletion_by (length doc.old.stamps)) resolved.now.deletes.items) (row_deletions_in doc.new) }
+        (row_deletions_in doc.old ++ map (deletion_by (length doc.old.stamps)) resolved.now.deletes.items)
+        (row_deletions_in doc.new) }
     ensures known { AreKnown doc.new.stamps (rows_in doc.new) }
     ensures runs { length doc.new.runs ≤ length doc.old.runs
         + 2 * (insertions_at resolved.now.runs.items + length resolved.now.deletes.items) }

@@ -100,7 +100,8 @@ impl Document for PlainDocument {
         let row = &mut self.elements[index];
         let earlier = row.newest;
         row.newest = Some(number);
-        self.deletions.push_reserved(PlainDeletion { at, by, earlier });
+        self.deletions
+            .push_reserved(PlainDeletion { at, by, earlier });
         self.near = index;
     }
 

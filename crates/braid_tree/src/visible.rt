@@ -26,7 +26,12 @@ pub fn count_visible(marks: &Marks, deletions: &[PlainDeletion], rows: &[PlainRo
 }
 
 /// The place of element number `n` among those that marked versions see.
-pub fn nth_visible(marks: &Marks, deletions: &[PlainDeletion], rows: &[PlainRow], n: u32) -> Option<At>
+pub fn nth_visible(
+    marks: &Marks,
+    deletions: &[PlainDeletion],
+    rows: &[PlainRow],
+    n: u32,
+) -> Option<At>
     requires linked { AreLinked deletions.now }
     requires newest { All (IsNewest deletions.now) rows.now }
     ensures value { result ≡ option_map place_in
