@@ -1,6 +1,7 @@
 //! Rising ranges of numbers that do not touch: one more among them, and a look for a number.
 
-ghost use Rattle.std.specs.Prelude.{◌≡◌, ◌<◌, ◌↔◌, IfOk, OnOk, OnErr, IsTrue};
+ghost use Rattle.std.specs.Prelude.{◌≡◌, ℕ, ◌<◌, ◌≤◌, ◌↔◌, length, slice_index_or, IfOk, OnOk, OnErr, IsTrue};
+ghost use Rattle.braid_ids.specs.declared.piece.Piece.{Piece};
 ghost use Rattle.braid_ids.specs.Pieces.{IsIn, ArePieces, BeginsBeforeLast, AreAll, KeepPieces, merged, with_piece};
 
 use crate::memory::Memory;
@@ -79,15 +80,82 @@ pub fn add_among(alloc: Global, pieces: &[Piece], piece: Piece) -> Result<Vec<Pi
     Ok(all)
 }
 
-/// Whether a number is in one of rising ranges, by bisection.
+/// Whether a number is in one of rising ranges: in the first one or before it, or near where it is looked for first, or
+/// else by bisection.
 pub fn is_in(pieces: &[Piece], n: u32) -> bool
     requires rise { ArePieces 0 pieces.now }
     ensures is_in { IsTrue result ↔ IsIn pieces.now n }
 {
-    let at = pieces.partition_point(|p| p.to <= n);
+    let at = ended_by(pieces, n);
     match pieces.get(at) {
         Some(p) => p.from <= n,
         None => false,
+    }
+}
+
+/// How many of rising ranges end at a number or below it.
+fn ended_by(pieces: &[Piece], n: u32) -> usize
+    requires rise { ArePieces 0 pieces.now }
+    ensures before { (k : ℕ) (d : Piece) → k < result → k < length pieces.now → (slice_index_or pieces.now k d).to ≤ n }
+    ensures behind { (d : Piece) → result < length pieces.now → n < (slice_index_or pieces.now result d).to }
+{
+    if is_end(pieces, 0, n) {
+        return 0;
+    }
+    let near = guess(pieces, n);
+    if is_end(pieces, near, n) {
+        return near;
+    }
+    if is_end(pieces, near.saturating_add(1), n) {
+        return near.saturating_add(1);
+    }
+    let at = pieces.partition_point(|p| p.to <= n);
+    at
+}
+
+/// Where to look for a number first: as far on among the ranges as it is among all numbers. Nothing rests on it.
+fn guess(pieces: &[Piece], n: u32) -> usize {
+    match pieces.last() {
+        Some(last) => {
+            let far = (n as u64).wrapping_mul(pieces.len() as u64);
+            (far / (last.to as u64).max(1)) as usize
+        }
+        None => 0,
+    }
+}
+
+/// Whether the first `at` of rising ranges are those that end at a number or below it.
+fn is_end(pieces: &[Piece], at: usize, n: u32) -> bool
+    requires rise { ArePieces 0 pieces.now }
+    ensures before { IsTrue result → (k : ℕ) (d : Piece) → k < at → k < length pieces.now
+        → (slice_index_or pieces.now k d).to ≤ n }
+    ensures behind { IsTrue result → (d : Piece) → at < length pieces.now → n < (slice_index_or pieces.now at d).to }
+{
+    have_ended(pieces, at, n) && goes_on(pieces, at, n)
+}
+
+/// Whether the first `at` of rising ranges end at a number or below it.
+fn have_ended(pieces: &[Piece], at: usize, n: u32) -> bool
+    requires rise { ArePieces 0 pieces.now }
+    ensures ended { IsTrue result → (k : ℕ) (d : Piece) → k < at → k < length pieces.now
+        → (slice_index_or pieces.now k d).to ≤ n }
+{
+    if at == 0 {
+        return true;
+    }
+    match pieces.get(at - 1) {
+        Some(last) => last.to <= n,
+        None => false,
+    }
+}
+
+/// Whether range number `at`, if there is one, ends above a number.
+fn goes_on(pieces: &[Piece], at: usize, n: u32) -> bool
+    ensures above { IsTrue result → (d : Piece) → at < length pieces.now → n < (slice_index_or pieces.now at d).to }
+{
+    match pieces.get(at) {
+        Some(next) => n < next.to,
+        None => true,
     }
 }
 
