@@ -1,8 +1,8 @@
 -- A spelling is short: its length is a number of 64 bits.
-use Rattle.std.proofs.Common.{◌≡◌, ℕ, suc, ◌+◌, ◌*◌, ◌<◌, ◌≤◌, ◌^◌, ◌==◌, ◌||◌, Bool, true, false, List, [], ◌∷◌, ◌++◌, arith, cond, min, ◌-◌, length, length-append, flat_map, codes, decimal, encode_utf8_all}
+use Rattle.std.proofs.Common.{◌≡◌, ℕ, ◌+◌, ◌*◌, ◌<◌, ◌≤◌, ◌^◌, ◌==◌, ◌||◌, Bool, true, false, List, [], ◌∷◌, ◌++◌, arith, cond, min, ◌-◌, length, length-append, flat_map, codes, decimal, encode_utf8_all}
 use Rattle.std.specs.List.{AllByRecursion}
 use Rattle.std.proofs.lemmas.Fmt.{length-decimal-le_succ}
-use Rattle.braid_ids.specs.Identifiers.{IsIdentifier, escaped, spelled_id, spelled_ids}
+use Rattle.braid_ids.specs.Identifiers.{IsIdentifier, escaped, spelled_id}
 use Rattle.braid_change.specs.Changes.{patches_content, AreListed, AreNumbered, IsShaped}
 use Rattle.braid_change.specs.Updates.{UpdateView, IsUpdate}
 use Rattle.braid_change.specs.Spellings.{list_text, length_text, content_text, range_text, patch_text, change_text, canonical}
