@@ -111,7 +111,7 @@ names_pass id parents then h k r l =
 
 abbrev body_judged : Option ℕ → List ℕ → List (List ℕ) → Result Plan Reason
 body_judged o id parents =
-    cond (is_none o) (Err reasons.BadLength) (cond (nat_lt 1_048_576 (unwrap_or o 0)) (Err reasons.TooLong) (Ok (record { id = id; parents = parents; asks = asks.Body (unwrap_or o 0) })))
+    cond (is_none o) (Err reasons.BadLength) (cond (nat_lt 1_048_576 (0 + unwrap_or o 0)) (Err reasons.TooLong) (Ok (record { id = id; parents = parents; asks = asks.Body (unwrap_or o 0) })))
 
 body_so : (id : List ℕ) (parents : List (List ℕ)) (text : List ℕ)
     → judge_head (head_fields (record { id = id; parents = parents; change = Body text })) ≡ names_judged (strings_in_value (spelled_id id)) (strings_in_value (spelled_ids parents)) (body_judged (length_in_value (decimal (length (encode_utf8_all text)))))
@@ -121,7 +121,7 @@ body_so id parents text = refl
 body_pass : (n : ℕ) (id : List ℕ) (parents : List (List ℕ)) → n ≤ 1048576 → body_judged (length_in_value (decimal n)) id parents ≡ Ok (record { id = id; parents = parents; asks = asks.Body n })
 body_pass n id parents l =
     ap (λ (o : Option ℕ). body_judged o id parents) (length_read n l)
-    ∙ ap (λ (t : Bool). cond t (Err reasons.TooLong) (Ok (record { id = id; parents = parents; asks = asks.Body n }))) (le-ltb 1048576 n l)
+    ∙ ap (λ (t : Bool). cond t (Err reasons.TooLong) (Ok (record { id = id; parents = parents; asks = asks.Body n }))) (le-ltb 1048576 (0 + n) (omega arith))
 
 abbrev patches_judged : Option ℕ → List ℕ → List (List ℕ) → Result Plan Reason
 patches_judged o id parents =

@@ -7,7 +7,7 @@ use Rattle.braid_ids.specs.Lists.{Lacks}
 use Rattle.braid_ids.proofs.Splits.{lacks_split}
 use Rattle.braid_shelf.specs.ByteClasses.{Are, begins, is_blank}
 use Rattle.braid_shelf.specs.Reading.{front_of, after}
-use Rattle.braid_shelf.proofs.Passing.{front_after, front_passes, after_stops, front_is, after_is}
+use Rattle.braid_shelf.proofs.Passing.{front_after, after_stops, front_is, after_is}
 use Rattle.braid_fields.specs.Lines.{IsLineEnd, ends, ends_line, content_of}
 use Rattle.braid_fields.specs.Fields.{is_in_name, IsName, is_in_value, IsPadded, IsField, IsFieldLine, Field, is_name, without_end, trimmed, is_no_colon, field_from, field_in, field_of}
 use Rattle.braid_fields.specs.Cuts.{EndsInBlanks, CutsEnd}

@@ -1,5 +1,5 @@
 -- A plan keeps to its limits.
-use Rattle.std.proofs.Common.{◌≡◌, ℕ, zero, suc, ◌+◌, Contains, ◌<◌, ◌≤◌, ◌^◌, ◌==◌, ◌||◌, ◌&&◌, not, Bool, true, false, cond, Ok, Err, Option, Some, None, is_none, unwrap_or, List, [], ◌∷◌, ◌++◌, length, get_or, refl, sym, ap, ◌∙◌, subst, arith, nat_lt, nat_le}
+use Rattle.std.proofs.Common.{◌≡◌, ℕ, zero, suc, ◌+◌, Contains, ◌<◌, ◌≤◌, ◌^◌, ◌==◌, ◌||◌, Bool, true, false, cond, Ok, Err, Option, Some, None, is_none, unwrap_or, List, [], ◌∷◌, ◌++◌, length, get_or, refl, subst, arith, nat_lt, nat_le}
 use Rattle.std.specs.List.{AllByRecursion}
 use Rattle.std.proofs.lemmas.Bool.{ltb-false, leb-true, eqb-false, and_parts}
 use Rattle.braid_ids.specs.Identifiers.{IsPrintable, IsIdentifier}
@@ -103,7 +103,8 @@ asked_within given p (c, (d, u)) h = go (is_there p.patches) h
 
     alone : AreClear (length_rows given 0 p.length) × AreClear (range_rows p.range) → IsAskedWithin (alone_asks given p)
     alone ((none, (bad, (long, v))), (unit, (other, (back, w)))) =
-        inner (is_there p.range) (ltb-false 1048576 (length_of given p.length) long) (ltb-false (range_of p.range).end (range_of p.range).start back) (range_small p.range other)
+        let short : 0 + length_of given p.length ≤ 1048576 = ltb-false 1048576 (0 + length_of given p.length) long in
+        inner (is_there p.range) (omega (arith, short)) (ltb-false (range_of p.range).end (range_of p.range).start back) (range_small p.range other)
 
     go : (t : Bool) → AreClear (cond t (beside_rows p.range) (length_rows given 0 p.length ++ range_rows p.range)) → IsAskedWithin (cond t (asks.Patches (count_of p.patches)) (alone_asks given p))
     go true h = ltb-false 1000 (count_of p.patches) d
