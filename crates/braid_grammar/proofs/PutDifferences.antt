@@ -1,22 +1,21 @@
 -- What is not looked at in a PUT, and how long its content is.
-use Rattle.std.proofs.Common.{◌≡◌, ℕ, zero, suc, ◌+◌, Bool, true, false, cond, Option, Some, List, [], ◌∷◌, ◌++◌, length, Result, Ok, Err, refl, sym, ap, subst, ◌∙◌, arith, length-append}
+use Rattle.std.proofs.Common.{◌≡◌, ℕ, Bool, true, false, cond, Some, List, [], ◌∷◌, ◌++◌, length, Result, Ok, Err, refl, sym, ap, subst, ◌∙◌, arith, length-append}
 use Rattle.std.proofs.lemmas.List.{append-nil}
 use Rattle.braid_change.specs.declared.change.Change.{Change}
 use Rattle.braid_change.specs.declared.change.Change.TheVariants.{Body, Patches}
 use Rattle.braid_change.specs.Updates.{UpdateView}
 use Rattle.braid_fields.specs.declared.parts.Parts.{Parts}
-use Rattle.braid_fields.specs.declared.reason.Reason.{Reason}
 use Rattle.braid_fields.specs.declared.plan.Asks.{Asks}
 use Rattle.braid_fields.specs.declared.plan.Asks.TheVariants as asks
 use Rattle.braid_fields.specs.declared.plan.Plan.{Plan}
 use Rattle.braid_fields.specs.Known.{is_there}
-use Rattle.braid_fields.specs.Table.{field_rows, name_rows, count_rows, content_rows, asks_of, plan_of, judge_put, count_of, length_of, range_of, patch_plan}
+use Rattle.braid_fields.specs.Table.{field_rows, name_rows, count_rows, content_rows, asks_of, plan_of, judge_put, count_of, range_of, patch_plan}
 use Rattle.braid_fields.proofs.Planned.{rows_same}
 use Rattle.braid_grammar.specs.declared.put.PutFault.{PutFault}
 use Rattle.braid_grammar.specs.declared.put.PutFault.TheVariants as faults
 use Rattle.braid_grammar.specs.Streams.{SpellsChange}
 use Rattle.braid_grammar.specs.FaultPlaces.{AsksLength}
-use Rattle.braid_grammar.specs.Puts.{IsPlanOf, SpellsPut, HasPutReason, of_fields, of_content, IsPutReading, with_length}
+use Rattle.braid_grammar.specs.Puts.{SpellsPut, HasPutReason, of_fields, of_content, IsPutReading, with_length}
 
 -- other lines of `Content-Length` are judged the same
 same_judged : (n : ℕ) (values : List (List ℕ)) (p : Parts) → judge_put n (with_length values p) ≡ judge_put n p
