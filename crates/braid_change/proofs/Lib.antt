@@ -1,4 +1,5 @@
 pub mod Lengths
+pub mod AsciiTexts
 pub mod Shapes
 pub mod Alike
 pub mod Runs

@@ -1,5 +1,5 @@
 -- What is written item by item is what the whole list is spelled as.
-use Rattle.std.proofs.Common.{◌≡◌, ◌==◌, ℕ, suc, ◌+◌, ◌<◌, ◌^◌, List, [], ◌∷◌, ◌++◌, Some, None, false, cond, ap, sym, ◌∙◌, arith, take, drop, length, get_or, slice_get, append_assoc, flat_map, codes, encode_utf8, encode_utf8_all}
+use Rattle.std.proofs.Common.{◌≡◌, ◌==◌, ℕ, suc, ◌+◌, ◌<◌, ◌^◌, List, [], ◌∷◌, ◌++◌, Some, None, false, cond, ap, sym, ◌∙◌, arith, take, drop, take-add, length, get_or, slice_get, append_assoc, flat_map, codes, encode_utf8_all}
 use Rattle.std.proofs.lemmas.List.{take_more, take-append-drop, append-nil, length-take-le}
 use Rattle.std.proofs.lemmas.List.Folds.{length-flat_map-take}
 use Rattle.std.proofs.lemmas.Grind.{flat_map-append}
@@ -13,13 +13,8 @@ use Rattle.braid_change.specs.Texts.{PutsFront}
 use Rattle.braid_change.specs.declared.patch.Patch.{Patch}
 
 -- one more item at the end of what was taken
-taken_more : {X : Type 0} (xs : List X) (n : ℕ) (x : X) → n < length xs → x ≡ get_or xs n x → take (n + 1) xs ≡ take n xs ++ x ∷ []
+pub taken_more : {X : Type 0} (xs : List X) (n : ℕ) (x : X) → n < length xs → x ≡ get_or xs n x → take (n + 1) xs ≡ take n xs ++ x ∷ []
 taken_more xs n x l e = take_more xs n x l ∙ ap (λ z. take n xs ++ z ∷ []) (sym e)
-
-pub encoded_more : (before old new items piece : List ℕ) (i c : ℕ) → i < length items → c ≡ get_or items i c → old ≡ before ++ encode_utf8_all (take i items) → piece ≡ encode_utf8 c → new ≡ old ++ piece → new ≡ before ++ encode_utf8_all (take (i + 1) items)
-encoded_more before old new items piece i c l e o p n =
-    let coded : encode_utf8_all (take (i + 1) items) ≡ encode_utf8_all (take i items) ++ encode_utf8 c = ap encode_utf8_all (taken_more items i c l e) ∙ encodes-append (take i items) (c ∷ []) ∙ ap (λ z. encode_utf8_all (take i items) ++ z) (append-nil (encode_utf8 c)) in
-    n ∙ ap (λ z. old ++ z) p ∙ ap (λ z. z ++ encode_utf8 c) o ∙ append_assoc before (encode_utf8_all (take i items)) (encode_utf8 c) ∙ ap (λ z. before ++ z) (sym coded)
 
 -- one more item, and what it is spelled as
 pub mapped_more : {X : Type 0} (f : X → List ℕ) (xs : List X) (n : ℕ) (x : X) → n < length xs → x ≡ get_or xs n x → flat_map f (take n xs) ++ f x ≡ flat_map f (take (n + 1) xs)
@@ -29,9 +24,15 @@ mapped_more f xs n x l e = sym (ap (flat_map f) (taken_more xs n x l e) ∙ flat
 pub mapped_at : {X : Type 0} (f : X → List ℕ) (xs : List X) (n : ℕ) (d : X) → n < length xs → flat_map f (take n xs) ++ f (get_or xs n d) ≡ flat_map f (take (n + 1) xs)
 mapped_at f xs n d l = sym (ap (flat_map f) (take_more xs n d l) ∙ flat_map-append f (take n xs) (get_or xs n d ∷ []) ∙ ap (λ z. flat_map f (take n xs) ++ z) (append-nil (f (get_or xs n d))))
 
--- one more character, and its UTF-8
-pub encoded_next : (items : List ℕ) (i c : ℕ) → i < length items → c ≡ get_or items i c → encode_utf8_all (take i items) ++ encode_utf8 c ≡ encode_utf8_all (take (i + 1) items)
-encoded_next items i c l e = sym (ap encode_utf8_all (taken_more items i c l e) ∙ encodes-append (take i items) (c ∷ []) ∙ ap (λ z. encode_utf8_all (take i items) ++ z) (append-nil (encode_utf8 c)))
+-- some more characters, and their UTF-8
+pub encoded_further : (items : List ℕ) (i n : ℕ) → encode_utf8_all (take i items) ++ encode_utf8_all (take n (drop i items)) ≡ encode_utf8_all (take (i + n) items)
+encoded_further items i n = sym (encodes-append (take i items) (take n (drop i items))) ∙ ap encode_utf8_all (sym (take-add i n items))
+
+-- the same behind what stood before
+pub encoded_behind : (before old new items : List ℕ) (i n : ℕ) → old ≡ before ++ encode_utf8_all (take i items) → new ≡ old ++ encode_utf8_all (take n (drop i items)) → new ≡ before ++ encode_utf8_all (take (i + n) items)
+encoded_behind before old new items i n o e =
+    e ∙ ap (λ z. z ++ encode_utf8_all (take n (drop i items))) o ∙ append_assoc before (encode_utf8_all (take i items)) (encode_utf8_all (take n (drop i items)))
+    ∙ ap (λ z. before ++ z) (encoded_further items i n)
 
 -- no text of a patch is longer than all together
 pub part_short : (patches : List Patch) (i : ℕ) (p : Patch) → i < length patches → p ≡ get_or patches i p → length (patches_content patches) < 2 ^ 64 → length (encode_utf8_all p.text) < 2 ^ 64

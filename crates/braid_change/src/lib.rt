@@ -9,6 +9,7 @@
 //! history: whether the parents of an update exist, and what the text at them is, is for the crates above.
 #![tactic(auto)]
 
+mod ascii;
 mod change;
 mod digester;
 mod joins;

@@ -1,8 +1,9 @@
-ghost use Rattle.std.specs.Prelude.{◌≡◌, ◌==◌, ◌<◌, ◌^◌, length, codes, decimal, flat_map, if◌then◌else◌, encode_utf8_all, IfOk};
+ghost use Rattle.std.specs.Prelude.{◌≡◌, ◌==◌, ◌<◌, ◌≤◌, ◌^◌, length, take, codes, decimal, flat_map, if◌then◌else◌, encode_utf8_all, IfOk};
 ghost use Rattle.braid_ids.specs.Identifiers.{spelled_id, escaped};
 ghost use Rattle.braid_change.specs.Changes.{content_len, patches_content};
 ghost use Rattle.braid_change.specs.Spellings.{canonical, list_text, length_text, content_text, range_text, patch_text, change_text};
 
+use crate::ascii::{ROOM, fill_ascii};
 use crate::change::Change;
 use crate::outlet::{Counted, Grown, Outlet};
 use crate::patch::Patch;
@@ -166,10 +167,31 @@ fn put_content<O: Outlet>(text: &Text, out: &mut O)
 fn put_text<O: Outlet>(text: &Text, out: &mut O)
     ensures puts { O.puts (encode_utf8_all text.now) out.old out.new }
 {
-    for c in text.chars() {
-        let mut buffer = [0; 4];
-        out.put(c.encode_utf8(&mut buffer).as_bytes());
+    let chars = text.chars();
+    let mut done = 0;
+    while done < chars.len() {
+        done += put_front(&chars[done..], out);
     }
+}
+
+/// Puts the UTF-8 of some of the first characters: of how many.
+///
+/// ASCII characters go many at once, by way of a buffer; any other one alone.
+fn put_front<O: Outlet>(chars: &[char], out: &mut O) -> usize
+    requires some { 0 < length chars.now }
+    ensures some { 0 < result }
+    ensures within { result ≤ length chars.now }
+    ensures puts { O.puts (encode_utf8_all (take result chars.now)) out.old out.new }
+{
+    let mut buffer = [0; ROOM];
+    let count = fill_ascii(&mut buffer, chars);
+    if count > 0 {
+        out.put(&buffer[..count]);
+        return count;
+    }
+    let mut buffer = [0; 4];
+    out.put(chars[0].encode_utf8(&mut buffer).as_bytes());
+    1
 }
 
 /// Puts a number in decimal, without leading zeros.

@@ -1,7 +1,8 @@
-ghost use Rattle.std.specs.Prelude.{◌≡◌, true, [], ◌∷◌, ◌-◌, ◌++◌, ◌^◌, min, length, ◌↔◌, IfOk, IfErr, OnOk, OnErr, IsTrue, encode_utf8_all};
-ghost use Rattle.std.specs.Str.{all_scalars};
+ghost use Rattle.std.specs.Prelude.{◌≡◌, true, [], ◌∷◌, ◌-◌, ◌<◌, ◌≤◌, ◌++◌, ◌^◌, min, length, take, ◌↔◌, IfOk, IfErr, OnOk, OnErr, IsTrue, encode_utf8_all};
+ghost use Rattle.std.specs.Str.{all_scalars, IsAscii};
 ghost use Rattle.braid_change.specs.Texts.{IsTextOf, IsTextFault, PutsFront};
 
+use crate::ascii::{ROOM, ascii_chars, fill_ascii};
 use braid_ids::{Bytes, Memory};
 use std::alloc::Global;
 use std::marker::Model;
@@ -40,6 +41,12 @@ impl Text {
         ensures ok { IfOk result (λ text. IsTextOf text bytes.now) }
         ensures fault { IfErr result (λ fault. IsTextFault bytes.now fault) }
     {
+        if bytes.is_ascii() {
+            return match read_ascii(alloc, bytes) {
+                Ok(text) => Ok(text),
+                Err(_) => Err(TextFault::Memory),
+            };
+        }
         let Ok(text) = str::from_utf8(bytes) else {
             return Err(TextFault::NotText);
         };
@@ -111,12 +118,42 @@ impl Text {
         ensures ok { OnOk result (out.new ≡ out.old ++ encode_utf8_all self.now) }
         ensures err { OnErr result (PutsFront (encode_utf8_all self.now) out.old out.new) }
     {
-        for c in self.chars() {
-            let mut buffer = [0; 4];
-            out.push(c.encode_utf8(&mut buffer).as_bytes())?;
+        let chars = self.chars();
+        let mut done = 0;
+        while done < chars.len() {
+            done += push_front(&chars[done..], out)?;
         }
         Ok(())
     }
+}
+
+/// The text of ASCII bytes.
+fn read_ascii(alloc: Global, bytes: &[u8]) -> Result<Text, Memory>
+    requires ascii { IsAscii bytes.now }
+    ensures ok { IfOk result (λ text. IsTextOf text bytes.now) }
+{
+    let chars = ascii_chars(alloc, bytes)?;
+    Ok(Text { chars })
+}
+
+/// Puts the UTF-8 of some of the first characters at the end of `out`: of how many.
+///
+/// ASCII characters go there many at once, by way of a buffer; any other one alone.
+fn push_front(chars: &[char], out: &mut Bytes) -> Result<usize, Memory>
+    requires some { 0 < length chars.now }
+    ensures ok { IfOk result (λ n. (0 < n) × (n ≤ length chars.now)
+        × (out.new ≡ out.old ++ encode_utf8_all (take n chars.now))) }
+    ensures err { OnErr result (out.new ≡ out.old) }
+{
+    let mut buffer = [0; ROOM];
+    let count = fill_ascii(&mut buffer, chars);
+    if count > 0 {
+        out.push(&buffer[..count])?;
+        return Ok(count);
+    }
+    let mut buffer = [0; 4];
+    out.push(chars[0].encode_utf8(&mut buffer).as_bytes())?;
+    Ok(1)
 }
 
 /// Each `char` is a scalar value, which a proof learns of a parameter but not of an item of a list.
