@@ -2,7 +2,7 @@ use Rattle.std.proofs.Common.{ℕ, ◌-◌, arith, subst, inl, inr}
 use Rattle.std.proofs.lemmas.Bool.{cases_eq}
 use Rattle.braid_tree.specs.Inside.{rows_in, IsPlaceOf}
 use Rattle.braid_tree.proofs.Places.{place_number}
-use Rattle.braid_tree.proofs.RowReads.{place_read, place_within, other_place}
+use Rattle.braid_tree.proofs.RowReads.{place_read, other_place}
 use Rattle.braid_tree.proofs.row.index_before.Goals as goal
 
 pub unreachable-requires : goal.unreachable-requires

@@ -1,4 +1,3 @@
-use Rattle.std.proofs.Common.{ℕ, ◌≤◌}
 use Rattle.braid_tree.specs.Inside.{rows_in, IsBefore}
 use Rattle.braid_tree.proofs.row.index_before.Given as goal
 
