@@ -24,10 +24,10 @@ use std::marker::Model;
 ///
 /// The runs stand in blocks of at most 256, each with its number of runs and of elements that nothing deletes. A run or
 /// a deletion looks its element up in the block of the last change, then from the one where a run of its version was put
-/// last on, passes over the blocks' numbers, and changes one block; where that is full it is cut in two. A version that deletes neighbours one after the other leaves one run more of
-/// them, or two. Where the marks hold every version `len` takes constant time, and `visible_at` and `visible_between` pass
-/// over the blocks' counts and then look into the blocks that they reach; else they are one pass over the runs, as `text`
-/// is.
+/// last on, passes over the blocks' numbers, and changes one block; where that is full it is cut in two. A version that
+/// deletes neighbours one after the other leaves one run more of them, or two. Where the marks hold every version `len`
+/// takes constant time, and `visible_at` and `visible_between` pass over the blocks' counts and then look into the blocks
+/// that they reach; else they are one pass over the runs, as `text` is.
 #[derive(Drop)]
 pub struct SpanDocument {
     versions: Vec<SpanVersion>,

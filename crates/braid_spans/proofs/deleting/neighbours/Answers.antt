@@ -1,4 +1,4 @@
-use Rattle.std.proofs.Common.{◌≡◌, ◌+◌, ◌++◌, ◌∷◌, [], List, ◌∙◌, ap, sym, arith, length, take}
+use Rattle.std.proofs.Common.{◌+◌, ◌++◌, ◌∷◌, [], List, ◌∙◌, ap, sym, arith, take}
 use Rattle.std.proofs.lemmas.List.{take_more}
 use Rattle.braid_tree.specs.declared.at.At.{At}
 use Rattle.braid_tree.specs.Rows.{place}

@@ -1,4 +1,3 @@
-use Rattle.std.proofs.Common.{length}
 use Rattle.braid_spans.specs.Spans.{spelled}
 use Rattle.braid_spans.specs.Kept.{chains_of, spans_of}
 use Rattle.braid_spans.proofs.Marking.{one_each}

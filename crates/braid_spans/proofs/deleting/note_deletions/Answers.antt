@@ -1,11 +1,11 @@
-use Rattle.std.proofs.Common.{◌≡◌, ℕ, ◌-◌, ◌<◌, ◌≤◌, ◌++◌, ◌∷◌, [], List, Some, length, slice_get, sym, subst, arith, vec_len, All, IsSomeAnd}
+use Rattle.std.proofs.Common.{◌≡◌, ℕ, ◌-◌, ◌<◌, ◌≤◌, ◌++◌, ◌∷◌, [], List, length, slice_get, sym, subst, arith, vec_len, All, IsSomeAnd}
 use Rattle.std.proofs.Math.ListN.{set}
 use Rattle.braid_tree.specs.declared.at.At.{At}
 use Rattle.braid_spans.specs.declared.run.Run.{Run}
 use Rattle.braid_spans.specs.declared.link.Link.{Link}
 use Rattle.braid_spans.specs.Spans.{Spelled, spelled}
 use Rattle.braid_spans.specs.Kept.{AreFitting, AreLinked, IsNext, IsFitting, MarksOne, MarksEach, chain_at, chains_of, spans_of, reach, linked_to}
-use Rattle.braid_spans.proofs.Lists.{some_item, some_and, from_some_and, all_got}
+use Rattle.braid_spans.proofs.Lists.{some_item, from_some_and, all_got}
 use Rattle.braid_spans.proofs.Chains.{linked_push, chains_count}
 use Rattle.braid_spans.proofs.Marking.{each_one, link_fits, link_marks}
 use Rattle.braid_spans.proofs.Sound.{all_reached}
