@@ -8,7 +8,7 @@ use Rattle.std.proofs.lemmas.List.Sorted.{IsPermutation-trans, IsPermutation-sym
 use Rattle.std.proofs.lemmas.List.Sums.{sum_by-cons}
 use Rattle.braid_change.specs.Updates.{UpdateView}
 use Rattle.braid_change.specs.Changes.{IsShaped}
-use Rattle.braid_change.specs.Splices.{ranges, inserted, AreRanges}
+use Rattle.braid_change.specs.Splices.{ranges, inserted}
 use Rattle.braid_change.specs.declared.patch.Patch.{Patch}
 use Rattle.braid_graph.specs.Entries.{GraphEntry, HoldsAll}
 use Rattle.braid_graph.specs.Levels.{greatest_by, level_of}
@@ -40,7 +40,6 @@ use Rattle.braid_text.specs.Standing.{Stands, stamp_in, stamps_of, id_at, named_
 use Rattle.braid_text.proofs.Held.{new_in}
 use Rattle.braid_text.proofs.Whole.{IsWhole, seen_member, seen_under}
 use Rattle.braid_text.proofs.Public.{legal_more, versions_more, document_more, deletions_more, level_more, needs_elements}
-use Rattle.braid_rebase.proofs.Spliced.{ranges_within}
 use Rattle.braid_rebase.proofs.Members.{contains_member, member_contains}
 use Rattle.braid_text.proofs.Viewed.{whole, seen_listed, all_place}
 

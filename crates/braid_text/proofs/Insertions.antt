@@ -1,6 +1,5 @@
 -- How many ranges insert text, and how the most runs of a history grow with an update.
-use Rattle.std.proofs.Common.{◌≡◌, ℕ, ◌+◌, ◌*◌, ◌<◌, ◌≤◌, List, [], ◌∷◌, ◌++◌, Bool, true, false, ◌==◌, if◌then◌else◌, Option, Some, None, IsSome, unwrap_or, length, take, get_or, refl, sym, ap, ◌∙◌, arith, length-append}
-use Rattle.std.proofs.lemmas.Bool.Decides.{nat_tests}
+use Rattle.std.proofs.Common.{◌≡◌, ℕ, ◌+◌, ◌*◌, ◌<◌, List, [], ◌∷◌, ◌++◌, Bool, true, false, ◌==◌, if◌then◌else◌, Some, None, IsSome, unwrap_or, length, take, get_or, refl, sym, ap, ◌∙◌, arith, length-append}
 use Rattle.std.proofs.lemmas.List.{take_more, length-map}
 use Rattle.std.proofs.lemmas.List.Sums.{sum_by-cons, sum_by-append}
 use Rattle.braid_change.specs.declared.patch.Patch.{Patch}
@@ -14,7 +13,7 @@ use Rattle.braid_tree.specs.Rows.{Row}
 use Rattle.braid_rebase.specs.Resolved.{IsResolved, places_of, row_chars, row_ranges, place_before, runs_at}
 use Rattle.braid_rebase.specs.declared.run.Run.{Run}
 use Rattle.braid_rebase.specs.declared.resolving.Resolved.{Resolved}
-use Rattle.braid_text.specs.Versions.{deletions_by, Deletion}
+use Rattle.braid_text.specs.Versions.{deletions_by}
 use Rattle.braid_text.specs.Histories.{added_by, deletions_of}
 use Rattle.braid_text.specs.Answers.{needs_of}
 use Rattle.braid_text.specs.RunCounts.{text_count, patch_count, insertions_in, insertions_of, update_count, insertions_by, most_runs}

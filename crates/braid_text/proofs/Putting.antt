@@ -1,5 +1,5 @@
 -- Runs put into a document: one more run, and what that leaves of the others.
-use Rattle.std.proofs.Common.{◌≡◌, ℕ, zero, suc, ◌+◌, ◌-◌, ◌<◌, ◌≤◌, List, [], ◌∷◌, ◌++◌, true, ◌==◌, length, map, take, drop, get_or, Option, Some, None, IsSomeAnd, refl, sym, ap, subst, ◌∙◌, inl, inr, ◌⊎◌, Less, slice_get, MatchOption, arith, append_assoc}
+use Rattle.std.proofs.Common.{◌≡◌, ℕ, zero, suc, ◌+◌, ◌-◌, ◌<◌, ◌≤◌, List, [], ◌∷◌, true, ◌==◌, length, map, take, drop, get_or, Option, Some, None, IsSomeAnd, refl, sym, ap, subst, ◌∙◌, inl, inr, ◌⊎◌, Less, slice_get, MatchOption, arith}
 use Rattle.std.specs.List.{AllByRecursion}
 use Rattle.std.proofs.lemmas.Bool.Decides.{nat_tests}
 use Rattle.std.proofs.lemmas.List.{take_more, drop_more}
@@ -10,7 +10,7 @@ use Rattle.braid_tree.specs.Keys.{Key, key_cmp, key_in}
 use Rattle.braid_tree.specs.Nodes.{Node, with_nodes, run}
 use Rattle.braid_tree.specs.Elements.{element_of}
 use Rattle.braid_tree.specs.Trees.{Member, IsTree, HasPath, AreNewKeys}
-use Rattle.braid_tree.specs.Rows.{Stamp, Row, RowDeletion, HasPlace, KeepsPlaces, IsOrigin, Inserts, ListsWithRun, element_at, key_by, next_key}
+use Rattle.braid_tree.specs.Rows.{Stamp, Row, HasPlace, KeepsPlaces, IsOrigin, Inserts, ListsWithRun, element_at, key_by, next_key}
 use Rattle.braid_tree.proofs.Keys.{keys_strict, run_keys_rise}
 use Rattle.braid_tree.proofs.Kept.{tree_with_run}
 use Rattle.braid_rebase.specs.Additions.{origin_at, nodes_at, AreUnder}

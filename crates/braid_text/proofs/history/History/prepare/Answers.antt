@@ -1,7 +1,7 @@
-use Rattle.std.proofs.Common.{◌++◌, ◌∷◌, [], arith, ap, ◌∙◌}
+use Rattle.std.proofs.Common.{[], arith, ap, ◌∙◌}
 use Rattle.braid_text.specs.Puts.{total_len}
 use Rattle.braid_text.specs.Standing.{rows_in, row_deletions_in}
-use Rattle.braid_text.proofs.Taking.{versions_kept, elements_kept, deletions_kept, fresh_there, parents_kept, deletions_taken, elements_taken, few_taken, over_there, deletes_kept, stands_after}
+use Rattle.braid_text.proofs.Taking.{versions_kept, elements_kept, deletions_kept, fresh_there, parents_kept, deletions_taken, elements_taken, few_taken}
 use Rattle.braid_text.proofs.history.History.prepare.Goals as goal
 
 pub total_len-requires : goal.total_len-requires

@@ -1,8 +1,7 @@
 use Rattle.std.proofs.Common.{◌++◌, ◌∷◌, [], length, arith, ap, refl, ◌∙◌}
-use Rattle.braid_text.specs.Puts.{total_len}
 use Rattle.braid_text.specs.Standing.{rows_in, row_deletions_in}
 use Rattle.braid_text.proofs.Insertions.{insertions_resolved}
-use Rattle.braid_text.proofs.Taking.{versions_kept, elements_kept, deletions_kept, fresh_there, parents_kept, deletions_taken, elements_taken, few_taken, over_there, deletes_kept, stands_after}
+use Rattle.braid_text.proofs.Taking.{deletions_taken, over_there, deletes_kept, stands_after}
 use Rattle.braid_text.proofs.history.History.take.Goals as goal
 
 pub add_version-requires-clause-over : goal.add_version-requires-clause-over
