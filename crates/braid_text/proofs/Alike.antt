@@ -1,5 +1,5 @@
 -- Histories of the same updates agree on everything.
-use Rattle.std.proofs.Common.{◌≡◌, ℕ, ◌+◌, ◌-◌, List, [], ◌∷◌, ◌++◌, true, false, refl, sym, ap, subst, ◌∙◌, inl, inr, arith, length, reverse, Option, None, Some, cond, Bool, length-append}
+use Rattle.std.proofs.Common.{◌≡◌, ℕ, ◌-◌, List, [], ◌∷◌, ◌++◌, true, false, refl, sym, ap, subst, ◌∙◌, inl, inr, arith, length, reverse, Option, None, Some, cond, Bool, length-append}
 use Rattle.braid_tree.specs.Keys.{Key, key_cmp}
 use Rattle.braid_tree.specs.Nodes.{Node}
 use Rattle.braid_change.specs.Updates.{UpdateView}

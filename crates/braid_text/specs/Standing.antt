@@ -11,7 +11,7 @@ use Rattle.braid_tree.specs.Elements.{element_of}
 use Rattle.braid_tree.specs.Rows.{Stamp, Row, AreKnown, element_at, key_at, place}
 use Rattle.braid_tree.specs.Rows.{RowDeletion}
 use Rattle.braid_spans.specs.Spans.{SpanView, spelled, rows_of}
-use Rattle.braid_spans.specs.Spans.{deletions_of as removals_of}
+use Rattle.braid_spans.specs.Spans.{deletions_of as run_deletions_of}
 use Rattle.braid_text.specs.Versions.{Version, Deletion}
 use Rattle.braid_text.specs.Histories.{graph_of, versions_at, document_of, deletions_of, IsLegal, MayFollow}
 
@@ -21,7 +21,7 @@ rows_in d = rows_of (spelled d.runs)
 
 -- and what deletes them
 abbrev pub row_deletions_in : SpanView → List RowDeletion
-row_deletions_in d = removals_of (spelled d.runs)
+row_deletions_in d = run_deletions_of (spelled d.runs)
 
 abbrev pub stamp_in : Version → Stamp
 stamp_in v = record { id = v.id; level = v.level }

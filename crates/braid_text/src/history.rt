@@ -130,7 +130,7 @@ impl History {
         ensures updates { self.new.updates.items ≡ self.old.updates.items }
         ensures stamps { self.new.document.stamps ≡ self.old.document.stamps }
         ensures rows { rows_in self.new.document ≡ rows_in self.old.document }
-        ensures removed { row_deletions_in self.new.document ≡ row_deletions_in self.old.document }
+        ensures row_deletions { row_deletions_in self.new.document ≡ row_deletions_in self.old.document }
         ensures runs { self.new.document.runs ≡ self.old.document.runs }
         ensures room { OnOk result (HasRoomFor self.new.document.room 1 (total_len resolved.now.runs.items)
             (length resolved.now.deletes.items)) }

@@ -10,7 +10,7 @@ invariant-loop-run l =
     let done = total_len (take l.run-index l.runs) in
     record {
       same : l.doc.stamps ≡ l.fn.doc.stamps;
-      removed : row_deletions_in l.doc ≡ row_deletions_in l.fn.doc;
+      row_deletions : row_deletions_in l.doc ≡ row_deletions_in l.fn.doc;
       known : AreKnown (l.doc.stamps) (rows_in l.doc);
       over : AreOver (rows_in l.doc) done (drop l.run-index l.runs);
       next : AreNewOrdinals (rows_in l.doc) (length (l.fn.doc.stamps) - 1) done;

@@ -40,7 +40,7 @@ returns-clause-stands c =
     let t = c.requires.takable in
     stands_after H es vs rows ds stands u c.args.resolved t c.push_reserved.new.self.items c.prepare.new.self.graph (c.prepare.new.self.document.stamps) (c.add_version.new.doc.stamps) (rows_in c.prepare.new.self.document) (rows_in c.add_version.new.doc) (row_deletions_in c.prepare.new.self.document) (row_deletions_in c.add_version.new.doc) u.id c.in_ok-name.name u.parents
     (c.push_reserved.ensures.items ∙ ap (λ t. t ++ u ∷ []) c.prepare.ensures.updates) c.in_ok-name.ensures.added refl refl c.in_ok-name.ensures.named
-    c.prepare.ensures.stamps c.prepare.ensures.rows c.prepare.ensures.removed c.add_version.ensures.stamps c.add_version.ensures.placed c.add_version.ensures.deletions c.add_version.ensures.known (omega (arith, c.requires.versions))
+    c.prepare.ensures.stamps c.prepare.ensures.rows c.prepare.ensures.row_deletions c.add_version.ensures.stamps c.add_version.ensures.placed c.add_version.ensures.deletions c.add_version.ensures.known (omega (arith, c.requires.versions))
 
 pub returns-clause-runs : goal.returns-clause-runs
 returns-clause-runs c =
