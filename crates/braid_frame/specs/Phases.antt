@@ -59,7 +59,8 @@ IsLeft (Faulted f) kept rest = ⊥
 IsLeft NoMemory kept rest = ⊥
 IsLeft _ kept rest = BeginsWithLine rest
 
--- bytes lead to a phase: they are a stream of these updates and what is left over, and with whatever follows they go on as what is kept
+-- bytes lead to a phase: they are a stream of these updates and what is left over, and with whatever follows they go on
+-- as what is kept
 pub record LeadsTo (us : List UpdateView) (phase : Phase) (at : ℕ) (kept bytes : List ℕ) : Type 0 where
   pub front : List ℕ
   pub rest : List ℕ

@@ -107,7 +107,7 @@ pub fn begin_content(
     })
 }
 
-/// Resumes on in a content of `len` bytes.
+/// Goes on in a content of `len` bytes.
 pub fn step_content(
     alloc: Global,
     state: &mut State,
@@ -137,7 +137,7 @@ pub fn step_content(
     })
 }
 
-/// Resumes on behind a content that is kept whole.
+/// Goes on behind a content that is kept whole.
 fn end_content(alloc: Global, state: &mut State, taken: usize) -> Result<Fed, FeedFault>
     requires content { IsInContent state.old.phase (length state.old.kept.items) }
     requires room { state.old.at + length state.old.kept.items < 2 ^ 64 }
@@ -158,7 +158,7 @@ fn end_content(alloc: Global, state: &mut State, taken: usize) -> Result<Fed, Fe
     }
 }
 
-/// Resumes on behind a content that is this text.
+/// Goes on behind a content that is this text.
 fn end_text(state: &mut State, text: Text, taken: usize) -> Result<Fed, FeedFault>
     requires content { IsInContent state.old.phase (length state.old.kept.items) }
     requires text { IsTextOf text state.old.kept.items }
@@ -183,7 +183,7 @@ fn end_text(state: &mut State, text: Text, taken: usize) -> Result<Fed, FeedFaul
     }
 }
 
-/// Resumes on behind a patch that is whole, whose content has `len` bytes.
+/// Goes on behind a patch that is whole, whose content has `len` bytes.
 fn end_patch(
     state: &mut State,
     patching: Patching,

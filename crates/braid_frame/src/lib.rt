@@ -1,6 +1,6 @@
 //! The framer: updates out of the bytes of an update stream (Braid-HTTP, in the profile of docs/FORMATS.md), which
-//! come in pieces of any kind; and writing an update in its canonical spelling. `read_put`, which reads the one update of a
-//! request from `Parts` and a whole body, is passed on from the grammar.
+//! come in pieces of any kind; and writing an update in its canonical spelling, through a buffer of fixed size.
+//! `read_put`, which reads the one update of a request from `Parts` and a whole body, is passed on from the grammar.
 //!
 //! A framer that was fed bytes has answered exactly the updates that the bytes complete, in order, each with its last
 //! byte. Where the bytes have a fault it has answered that fault, with its place and reason, and answers it for good.

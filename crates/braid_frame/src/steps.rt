@@ -49,7 +49,7 @@ pub fn step(alloc: Global, state: &mut State, piece: &[u8]) -> Result<Fed, FeedF
     }
 }
 
-/// Resumes on in the line of a head.
+/// Goes on in the line of a head.
 fn step_line(alloc: Global, state: &mut State, piece: &[u8]) -> Result<Fed, FeedFault>
     requires lines { IsInLines state.old.phase }
     requires fine { AreLines (judge_of state.old.phase) state.old.kept.items state.old.line state.old.awaits }
@@ -79,7 +79,7 @@ fn step_line(alloc: Global, state: &mut State, piece: &[u8]) -> Result<Fed, Feed
     }
 }
 
-/// Resumes on behind a line that has ended.
+/// Goes on behind a line that has ended.
 fn end_line(alloc: Global, state: &mut State, taken: usize) -> Result<Fed, FeedFault>
     requires lines { IsInLines state.old.phase }
     requires ended { LineEnded (judge_of state.old.phase) state.old.kept.items state.old.line state.old.awaits }
@@ -118,7 +118,7 @@ fn end_line(alloc: Global, state: &mut State, taken: usize) -> Result<Fed, FeedF
     }
 }
 
-/// Resumes on behind a head that has ended.
+/// Goes on behind a head that has ended.
 fn end_head(alloc: Global, state: &mut State, taken: usize) -> Result<Fed, FeedFault>
     requires lines { IsInLines state.old.phase }
     requires ended { LineEnded (judge_of state.old.phase) state.old.kept.items state.old.line awaited.MoreFields }
@@ -141,7 +141,7 @@ fn end_head(alloc: Global, state: &mut State, taken: usize) -> Result<Fed, FeedF
     }
 }
 
-/// Resumes on behind an update's head that has ended.
+/// Goes on behind an update's head that has ended.
 fn end_update_head(alloc: Global, state: &mut State, taken: usize) -> Result<Fed, FeedFault>
     requires phase { state.old.phase ≡ phases.Lines }
     requires ended { LineEnded (judge_of phases.Lines) state.old.kept.items state.old.line awaited.MoreFields }
@@ -162,7 +162,7 @@ fn end_update_head(alloc: Global, state: &mut State, taken: usize) -> Result<Fed
     }
 }
 
-/// Resumes on behind a patch's head that has ended.
+/// Goes on behind a patch's head that has ended.
 fn end_patch_head(
     alloc: Global,
     state: &mut State,

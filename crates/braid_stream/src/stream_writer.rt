@@ -11,11 +11,11 @@ use braid_io::{Sink, WriteEnd};
 
 /// Writes a stream of updates as a chunked body (RFC 9112, section 7.1), through a buffer of 8,192 bytes.
 ///
-/// Each update is one chunk with its canonical spelling. A call writes in as few writes as the buffer allows, and leaves
-/// nothing waiting. It borrows its sink until it is dropped, and takes no memory.
+/// Each update is one chunk with its canonical spelling. A call writes in as few writes as the buffer allows, and
+/// leaves nothing waiting. It borrows its sink until it is dropped, and takes no memory.
 ///
-/// Errors: `WriteFault` at the first write that fails, where the sink's count of faults rose in that call; a front of what
-/// the call writes was then written. No call answers `Memory`.
+/// Errors: `WriteFault` at the first write that fails, where the sink's count of faults rose in that call; a front of
+/// what the call writes was then written. No call answers `Memory`.
 #[derive(Drop)]
 pub struct StreamWriter<'a, S: Sink> {
     out: Buffered<'a, S>,
