@@ -9,7 +9,7 @@ use Rattle.braid_text.specs.Answers.{needs_of}
 use Rattle.braid_text.proofs.Public.{legal_more, elements_more, deletions_more, width_after}
 use Rattle.braid_store.specs.declared.entry.Entry.{Entry}
 use Rattle.braid_store.specs.declared.put.Put.TheVariants.{New}
-use Rattle.braid_store.specs.Books.{same_path, entries_of, of_path, paths_of, sum_of, counts_at, IsLegalBook}
+use Rattle.braid_store.specs.Books.{same_path, entries_of, of_path, paths_of, sum_of, IsLegalBook}
 use Rattle.braid_store.specs.Answers.{IsPut}
 use Rattle.braid_ids.proofs.Rising.{same_bytes}
 use Rattle.braid_store.proofs.Paths.{of_path_own, of_path_other, paths_there, paths_new, same_itself}

@@ -1,5 +1,5 @@
 -- What a resource answers with the room that the limits leave beside a book, as the book's answer.
-use Rattle.std.proofs.Common.{◌≡◌, ◌≢◌, ℕ, ◌+◌, ◌<◌, ◌≤◌, List, [], ◌∷◌, ◌++◌, length, refl, sym, ap, subst, ◌∙◌, arith, inl, inr, ◌⊎◌}
+use Rattle.std.proofs.Common.{◌≡◌, ◌≢◌, ℕ, ◌+◌, ◌<◌, ◌≤◌, List, [], ◌∷◌, ◌++◌, length, refl, sym, subst, arith, inl, inr, ◌⊎◌}
 use Rattle.std.specs.List.{Contains}
 use Rattle.std.proofs.lemmas.Bool.{cases_lt}
 use Rattle.braid_change.specs.Updates.{UpdateView}
@@ -11,7 +11,7 @@ use Rattle.braid_text.specs.declared.accept.Accept.{Accept}
 use Rattle.braid_text.specs.declared.accept.Accept.TheVariants as accepts
 use Rattle.braid_text.specs.Answers.{needs_of, HasRoom, IsOver, IsAnswer}
 use Rattle.braid_store.specs.declared.entry.Entry.{Entry}
-use Rattle.braid_store.specs.declared.put.Put.TheVariants.{New, Known, Clash, UnknownParent, OutOfRange, Full, Memory}
+use Rattle.braid_store.specs.declared.put.Put.TheVariants.{New, Full}
 use Rattle.braid_store.specs.Books.{counts_at, of_path, paths_of}
 use Rattle.braid_store.specs.Answers.{limit_of, count_of, place_of, IsWithin, IsFirstOver, IsPut, refused_as, refused_when_full}
 use Rattle.braid_store.specs.Inside.{IsBook, room_beside}

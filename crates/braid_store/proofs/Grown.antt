@@ -1,6 +1,6 @@
 -- What is kept of a book with one entry more.
-use Rattle.std.proofs.Common.{◌≡◌, ◌≢◌, ℕ, ◌+◌, ◌<◌, ◌≤◌, List, [], ◌∷◌, ◌++◌, Bool, true, false, true≢false, cond, map, length, Option, Some, None, IsSome, is_some, refl, sym, ap, subst, ◌∙◌, append-nil, inl, inr, arith, zero, suc}
-use Rattle.std.specs.List.{slice_get, list_any, filter_map, cons_option, IsDistinct, AllByRecursion}
+use Rattle.std.proofs.Common.{◌≡◌, ◌≢◌, ℕ, List, [], ◌∷◌, ◌++◌, false, true≢false, map, length, Option, Some, None, IsSome, is_some, refl, sym, ap, subst, ◌∙◌, inl, inr, zero, suc}
+use Rattle.std.specs.List.{slice_get, cons_option, IsDistinct, AllByRecursion}
 use Rattle.std.specs.Option.{option_map, option_and_then}
 use Rattle.std.proofs.lemmas.List.{map-append}
 use Rattle.std.proofs.lemmas.List.Elements.{filter_map-append}
@@ -8,15 +8,14 @@ use Rattle.std.proofs.lemmas.Option.{slice_get-map, none-some, same_Some}
 use Rattle.indexmap.specs.IndexMap.{set_value_at}
 use Rattle.braid_ids.proofs.Members.{Member, member_contains, member_at, kept_place}
 use Rattle.braid_change.specs.Updates.{UpdateView}
-use Rattle.braid_text.specs.Histories.{elements_of, deletions_of}
-use Rattle.braid_text.specs.declared.room.Which.TheVariants.{Resources, Versions, Elements, Deletions, Width}
+use Rattle.braid_text.specs.declared.room.Which.TheVariants.{Resources, Versions, Elements, Deletions}
 use Rattle.braid_store.specs.declared.entry.Entry.{Entry}
 use Rattle.braid_store.specs.declared.place.Place.{Place}
 use Rattle.braid_store.specs.declared.put.Put.TheVariants.{New}
 use Rattle.braid_store.specs.Books.{same_path, of_path, paths_of, sum_of}
 use Rattle.braid_store.specs.Answers.{IsPut}
 use Rattle.braid_store.specs.Inside.{entry_at, entries_at, resources_of, ArePlaced, IsBook, KeepsBook}
-use Rattle.braid_store.proofs.Paths.{has_path, same_itself, any_listed, of_path_push, of_path_own, of_path_other, paths_push, paths_new, paths_there, paths_differ, path_among, absent_from_history, listed_path}
+use Rattle.braid_store.proofs.Paths.{same_itself, of_path_push, of_path_own, of_path_other, paths_push, paths_new, paths_there, paths_differ, listed_path}
 use Rattle.braid_store.proofs.Counted.{elements_len, deletions_len, legal_book_more}
 
 -- the entry at a place, by the path and the update that stand there

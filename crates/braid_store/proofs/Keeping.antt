@@ -1,5 +1,5 @@
 -- What a book keeps, call by call.
-use Rattle.std.proofs.Common.{◌≡◌, ◌≢◌, ℕ, ◌+◌, ◌-◌, ◌<◌, ◌≤◌, List, [], ◌∷◌, ◌++◌, Bool, true, false, cond, map, length, reverse, Some, None, refl, sym, ap, subst, ◌∙◌, arith, zero, suc, inr, Contains}
+use Rattle.std.proofs.Common.{◌≡◌, ◌≢◌, ℕ, ◌+◌, ◌-◌, ◌<◌, ◌≤◌, List, [], ◌∷◌, ◌++◌, Bool, cond, map, length, reverse, Some, None, refl, sym, ap, subst, ◌∙◌, arith, zero, suc, inr, Contains}
 use Rattle.std.specs.List.{slice_get}
 use Rattle.std.specs.Map.{lookup, values_of}
 use Rattle.std.specs.Option.{option_map}

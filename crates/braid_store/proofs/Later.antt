@@ -1,10 +1,9 @@
 -- What is sent of a longer history, and cursors over it.
-use Rattle.std.proofs.Common.{◌≡◌, ℕ, ◌+◌, ◌≤◌, ◌<◌, ◌↔◌, List, [], ◌∷◌, ◌++◌, Bool, true, false, true≢false, not, cond, filter, length, map, reverse, take, drop, Some, refl, sym, ap, subst, ◌∙◌, append-nil, append_assoc, length-append, arith, inl, inr, ◌⊎◌, zero, suc}
-use Rattle.std.specs.List.{slice_get, Contains}
+use Rattle.std.proofs.Common.{◌≡◌, ℕ, ◌≤◌, List, [], ◌∷◌, ◌++◌, Bool, true, false, true≢false, not, cond, filter, length, reverse, take, drop, Some, refl, sym, ap, subst, ◌∙◌, append-nil, append_assoc, length-append, arith, inl, inr, ◌⊎◌, zero, suc}
+use Rattle.std.specs.List.{slice_get}
 use Rattle.std.proofs.lemmas.List.{reverse-append, append_cancel_left, take-append-drop, drop-append-le}
 use Rattle.std.proofs.lemmas.List.Elements.{filter-append}
-use Rattle.std.proofs.lemmas.Option.{slice_get_within}
-use Rattle.braid_ids.proofs.Members.{Member, member_at, contains_member, member_contains, member_append_left, kept_place}
+use Rattle.braid_ids.proofs.Members.{Member, member_at, contains_member, member_contains, kept_place}
 use Rattle.braid_change.specs.Updates.{UpdateView}
 use Rattle.braid_graph.specs.Entries.{Holds, HoldsAll, has_id, ids_of}
 use Rattle.braid_graph.specs.Ancestries.{IsAncestor}

@@ -1,14 +1,13 @@
 -- A cursor that passes updates.
-use Rattle.std.proofs.Common.{◌≡◌, ℕ, ◌+◌, ◌-◌, ◌<◌, ◌≤◌, List, [], ◌∷◌, ◌++◌, Bool, true, false, true≢false, cond, filter, length, drop, Option, Some, None, MatchOption, refl, sym, ap, subst, ◌∙◌, arith, zero, suc}
-use Rattle.std.specs.List.{slice_get, Contains}
+use Rattle.std.proofs.Common.{◌≡◌, ℕ, ◌+◌, ◌-◌, ◌<◌, ◌≤◌, List, [], ◌∷◌, Bool, true, false, true≢false, cond, filter, length, drop, Option, Some, None, MatchOption, refl, sym, ap, subst, ◌∙◌, arith, zero, suc}
+use Rattle.std.specs.List.{slice_get}
 use Rattle.std.specs.Option.{option_map}
 use Rattle.std.proofs.lemmas.List.{length-map}
 use Rattle.std.proofs.lemmas.Option.{slice_get-map, none-some, same_Some}
-use Rattle.braid_ids.specs.Frontiers.{IsRising}
 use Rattle.braid_ids.specs.MarkSets.{IsMarked}
 use Rattle.braid_ids.proofs.Members.{no_gap}
 use Rattle.braid_change.specs.Updates.{UpdateView}
-use Rattle.braid_graph.specs.Entries.{GraphEntry, Holds, HoldsAll}
+use Rattle.braid_graph.specs.Entries.{Holds, HoldsAll}
 use Rattle.braid_graph.specs.Ancestries.{IsAncestor, MarksAncestry, IsLeastUnheld}
 use Rattle.braid_graph.specs.Frontiers.{IsFrontierOf}
 use Rattle.braid_text.specs.Histories.{IsLegal, graph_of, entry_of}

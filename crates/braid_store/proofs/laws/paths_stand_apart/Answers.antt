@@ -1,4 +1,4 @@
-use Rattle.braid_store.proofs.Paths.{of_path_own, of_path_other, path_listed, listed_path, paths_push, path_among, paths_differ}
+use Rattle.braid_store.proofs.Paths.{of_path_own, of_path_other, path_listed, listed_path}
 use Rattle.braid_store.proofs.laws.paths_stand_apart.Goals as goal
 
 pub returns-clause-own : goal.returns-clause-own

@@ -1,7 +1,7 @@
-use Rattle.std.proofs.Common.{List, [], ◌∷◌, ◌++◌, sym, subst}
+use Rattle.std.proofs.Common.{List, [], sym, subst}
 use Rattle.braid_store.specs.declared.entry.Entry.{Entry}
 use Rattle.braid_store.specs.Books.{IsLegalBook}
-use Rattle.braid_store.specs.Cursors.{CursorView, IsFit}
+use Rattle.braid_store.specs.Cursors.{IsFit}
 use Rattle.braid_store.proofs.Later.{fits_longer_book}
 use Rattle.braid_store.proofs.tests.add.Goals as goal
 

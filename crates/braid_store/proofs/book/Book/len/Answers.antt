@@ -1,4 +1,4 @@
-use Rattle.std.proofs.Common.{List, length, ap, sym, arith, ◌∙◌}
+use Rattle.std.proofs.Common.{List, length, ap, arith}
 use Rattle.braid_store.specs.declared.entry.Entry.{Entry}
 use Rattle.braid_store.proofs.Keeping.{versions_len}
 use Rattle.braid_store.proofs.book.Book.len.Goals as goal

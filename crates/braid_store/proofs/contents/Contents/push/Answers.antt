@@ -1,8 +1,7 @@
-use Rattle.std.proofs.Common.{◌≡◌, ◌+◌, ℕ, List, [], ◌∷◌, ◌++◌, ap, sym, ◌∙◌, nat_eq, refl}
+use Rattle.std.proofs.Common.{◌+◌, [], ◌∷◌, ◌++◌, ap, sym, ◌∙◌, nat_eq}
 use Rattle.std.specs.Cmp.Lexicographic.{pointwise}
 use Rattle.indexmap.proofs.CallerLemmas.{insert_entry-new}
 use Rattle.braid_change.specs.Updates.{UpdateView}
-use Rattle.braid_store.specs.declared.entry.Entry.{Entry}
 use Rattle.braid_store.specs.Inside.{entries_in}
 use Rattle.braid_store.proofs.Grown.{Grows}
 use Rattle.braid_store.proofs.Keeping.{first_entry, adds_first, lookup_none, same_head}

@@ -1,4 +1,4 @@
-use Rattle.std.proofs.Common.{Some, is_some, sym, ap, ◌∙◌}
+use Rattle.std.proofs.Common.{is_some, sym, ap, ◌∙◌}
 use Rattle.braid_store.specs.Inside.{entries_in}
 use Rattle.braid_store.proofs.Found.{absent_by, place_by}
 use Rattle.braid_store.proofs.contents.Contents.put.Goals as goal

@@ -1,4 +1,4 @@
-use Rattle.std.proofs.Common.{◌≡◌, ℕ, List, [], ◌∷◌, ◌++◌, length, inl, Contains, true≢false, refl, sym, ap, subst, ◌∙◌}
+use Rattle.std.proofs.Common.{List, [], ◌∷◌, ◌++◌, length, inl, Contains, true≢false, refl, sym, ap, subst, ◌∙◌}
 use Rattle.braid_change.specs.Updates.{UpdateView}
 use Rattle.braid_text.specs.Histories.{IsLegal}
 use Rattle.indexmap.specs.IndexMap.{set_value_at}

@@ -1,13 +1,8 @@
-use Rattle.std.proofs.Common.{◌≡◌, ℕ, List, [], ◌∷◌, ◌++◌, ◌≤◌, length, true≢false, sym, ap, subst, ◌∙◌, inr}
+use Rattle.std.proofs.Common.{List, [], ◌∷◌, ◌++◌, true≢false, sym, ap, subst, ◌∙◌, inr}
 use Rattle.braid_change.specs.Updates.{UpdateView}
-use Rattle.braid_text.specs.declared.accept.Accept.{Accept}
-use Rattle.braid_text.specs.Answers.{IsAnswer}
-use Rattle.braid_store.specs.declared.entry.Entry.{Entry}
-use Rattle.braid_store.specs.declared.put.Put.{Put}
-use Rattle.braid_store.specs.declared.put.Put.TheVariants.{New}
 use Rattle.braid_store.specs.Answers.{IsPut}
 use Rattle.braid_store.specs.Inside.{entries_in}
-use Rattle.braid_store.proofs.Fitting.{fits_by, full_fits_by, when_full_other, refused_other, below_from, none_contained, HasPlace}
+use Rattle.braid_store.proofs.Fitting.{fits_by, full_fits_by, when_full_other, refused_other, below_from, none_contained}
 use Rattle.braid_store.proofs.Keeping.{first_entry, put_refused, same_contents, may_add, put_first_new, new_fits}
 use Rattle.braid_store.proofs.contents.Contents.put_first.Goals as goal
 

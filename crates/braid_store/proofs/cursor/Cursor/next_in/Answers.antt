@@ -1,4 +1,4 @@
-use Rattle.std.proofs.Common.{ℕ, ◌+◌, ◌≡◌, List, [], Option, length, arith, sym, subst}
+use Rattle.std.proofs.Common.{◌+◌, ◌≡◌, [], Option, arith, sym, subst}
 use Rattle.std.specs.Option.{option_copied}
 use Rattle.braid_change.specs.Updates.{UpdateView}
 use Rattle.braid_store.specs.Cursors.{CursorView, FitsHistory, IsNext, left_past}
