@@ -1,5 +1,5 @@
 -- What a replica takes of the updates of a stream: which of them it accepts, and the history that they leave.
-use Rattle.std.specs.Prelude.{◌≡◌, ℕ, List, [], ◌∷◌, ◌++◌, reverse, if◌then◌else◌}
+use Rattle.std.specs.Prelude.{◌≡◌, List, [], ◌∷◌, ◌++◌, reverse, if◌then◌else◌}
 use Rattle.std.specs.List.{list_any}
 use Rattle.braid_change.specs.Updates.{UpdateView}
 use Rattle.braid_text.specs.Refusals.{same_update}

@@ -1,4 +1,4 @@
-ghost use Rattle.std.specs.Prelude.{◌≡◌, ◌<◌, [], ◌++◌, List, ℕ, false, true, length, IsTrue};
+ghost use Rattle.std.specs.Prelude.{◌≡◌, ◌<◌, [], List, ℕ, false, true, length};
 ghost use Rattle.braid_frame.specs.Buffers.{BufferView, Puts, IsWritten};
 
 use crate::pending::Pending;

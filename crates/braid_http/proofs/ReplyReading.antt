@@ -20,7 +20,7 @@ use Rattle.braid_http.specs.Fields.{append_named}
 use Rattle.braid_http.specs.HeadReads.{IsGoodAt}
 use Rattle.braid_http.specs.Looks.{IsHeadAt}
 use Rattle.braid_http.specs.Waits.{Breaks}
-use Rattle.braid_http.specs.Responses.{IsWholeResponse, SaysReply, kind_of, reply_head_of, ReplyAnswer, replied, refused, long_head, many_fields, bad_head, by_fields, head, IsReplyDecided, IsReplyOpen}
+use Rattle.braid_http.specs.Responses.{IsWholeResponse, SaysReply, kind_of, reply_head_of, replied, refused, long_head, many_fields, bad_head, by_fields, head, IsReplyDecided, IsReplyOpen}
 use Rattle.braid_http.specs.ResponseReads.{HoldsReply}
 use Rattle.braid_http.specs.Replying.{TookForReply, TookForReplyAndFailed, AnswersReply, Replies, replied_of, JudgesReply}
 use Rattle.braid_http.proofs.LineLaws.{same_text}

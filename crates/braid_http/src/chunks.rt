@@ -1,6 +1,6 @@
 //! Chunked bodies, decoded as their bytes come.
 
-ghost use Rattle.std.specs.Prelude.{◌≡◌, ◌≤◌, ◌<◌, ◌++◌, [], List, ℕ, MatchOption, length};
+ghost use Rattle.std.specs.Prelude.{◌≡◌, ◌<◌, ◌++◌, [], List, ℕ, MatchOption, length};
 ghost use Rattle.httparse.specs.Grammar.{ChunkLine, ReadsChunkLine};
 ghost use Rattle.braid_ids.specs.Lists.{Lacks};
 ghost use Rattle.braid_http.specs.Chunks.{IsCut, Announces};

@@ -1,10 +1,8 @@
 //! What the fields of a request say of its body, and whether they ask to close the connection.
 
-ghost use Rattle.std.specs.Prelude.{◌≡◌, codes};
+ghost use Rattle.std.specs.Prelude.{◌≡◌};
 ghost use Rattle.std.specs.List.{list_any};
-ghost use Rattle.std.specs.Str.{str_eq_ignore_ascii_case};
-ghost use Rattle.http_header.specs.HeaderMap.{get_all};
-ghost use Rattle.braid_http.specs.Framings.{body_of, by_length, by_coding, framing, is_close, parts_of, closes};
+ghost use Rattle.braid_http.specs.Framings.{by_length, by_coding, framing, is_close, parts_of, closes};
 
 use crate::head::Head;
 use crate::refusal::Refusal;

@@ -1,6 +1,6 @@
 //! A whole request head, as `http` and `http_header` hold it.
 
-ghost use Rattle.std.specs.Prelude.{◌≡◌, ◌≤◌, ◌+◌, List, ℕ, [], length, All, OnOk, IfOk, IsErrOf, fold, map};
+ghost use Rattle.std.specs.Prelude.{◌≡◌, ◌≤◌, ◌+◌, [], length, All, OnOk, IfOk, IsErrOf, fold, map};
 ghost use Rattle.httparse.specs.Grammar.{RequestHead};
 ghost use Rattle.httparse.specs.Spans.{header_bytes, IsHeaderWithin};
 ghost use Rattle.http_header.specs.HeaderMap.{value_count};

@@ -1,6 +1,6 @@
 //! Where a head or a trailer ends, in bytes that come piece by piece.
 
-ghost use Rattle.std.specs.Prelude.{◌≡◌, ◌+◌, ◌-◌, ◌≤◌, ◌++◌, ◌∷◌, List, ℕ, IsTrue, ◌↔◌, MatchOption, length, take, drop};
+ghost use Rattle.std.specs.Prelude.{◌≡◌, ◌+◌, ◌-◌, ◌≤◌, ◌++◌, List, ℕ, IsTrue, ◌↔◌, MatchOption, length, drop};
 ghost use Rattle.std.specs.List.{AllByRecursion};
 ghost use Rattle.braid_ids.specs.Lists.{Lacks};
 ghost use Rattle.braid_http.specs.Heads.{line, lines, IsEmptyLine, HasNoHead, HasNoBlock, BeginsFull};

@@ -1,6 +1,6 @@
 //! Reading until the head of a reply is decided.
 
-ghost use Rattle.std.specs.Prelude.{◌≡◌, ◌<◌, ◌≤◌, List, ℕ, IfOk, IfErr, IsErrOf, Some, length, drop, codes};
+ghost use Rattle.std.specs.Prelude.{◌≡◌, ◌<◌, ◌≤◌, IfOk, IfErr, IsErrOf, Some, length, drop, codes};
 ghost use Rattle.httparse.specs.Grammar.{ResponseHead};
 ghost use Rattle.http_header.specs.HeaderMap.{get_all};
 ghost use Rattle.braid_http.specs.Looks.{IsHeadAt};
