@@ -1,5 +1,5 @@
 -- What a write adds: a legal log, a chain, and names of the agent; and that a write is judged first.
-use Rattle.std.proofs.Common.{◌≡◌, ◌<◌, ◌+◌, ◌^◌, List, [], ◌∷◌, ◌++◌, Bool, true, false, ◌&&◌, not, cond, nat_lt, refl, sym, ap, subst, ◌∙◌, inl, inr, ◌⊎◌, arith, length, reverse, append_assoc, length-append, Some, IsSome, is_some, ℕ}
+use Rattle.std.proofs.Common.{◌≡◌, ◌<◌, ◌+◌, ◌^◌, List, [], ◌∷◌, ◌++◌, Bool, true, false, ◌&&◌, not, cond, nat_lt, refl, sym, ap, subst, ◌∙◌, inl, inr, ◌⊎◌, arith, length, reverse, append_assoc, Some, IsSome, is_some, ℕ}
 use Rattle.std.proofs.lemmas.List.{reverse-append}
 use Rattle.braid_ids.specs.Agents.{IsAgent}
 use Rattle.braid_change.specs.declared.change.Change.{Change}
@@ -11,7 +11,7 @@ use Rattle.braid_tree.specs.Trees.{Member}
 use Rattle.braid_tree.proofs.Member.{member_append_cases}
 use Rattle.braid_rebase.specs.Additions.{chars_of}
 use Rattle.braid_rebase.proofs.Members.{member_contains}
-use Rattle.braid_text.specs.Versions.{seen_in, text_in, versions_in}
+use Rattle.braid_text.specs.Versions.{text_in, versions_in}
 use Rattle.braid_text.specs.Histories.{Follows, IsLegalLog, text_of}
 use Rattle.braid_text.specs.Refusals.{first_full}
 use Rattle.braid_text.specs.Answers.{room_of}
@@ -19,7 +19,7 @@ use Rattle.braid_text.specs.declared.room.Room.{Room}
 use Rattle.braid_text.proofs.Public.{frontier_log}
 use Rattle.braid_outbox.specs.Shapes.{is_change}
 use Rattle.braid_outbox.specs.Replicas.{ReplicaView, IsSound, IsChained, all_of, log_of, frontier, greatest_number}
-use Rattle.braid_outbox.specs.Writes.{next_in, last_id, merges_of, merges_needed, last_number, additions, write_needs, is_written, with_unsent, write}
+use Rattle.braid_outbox.specs.Writes.{next_in, last_id, merges_of, merges_needed, last_number, additions, write_needs, with_unsent, write}
 use Rattle.braid_outbox.proofs.Shapes.{built_from, lt_from}
 use Rattle.braid_outbox.proofs.Names.{IsName}
 use Rattle.braid_outbox.proofs.Fronts.{frontier_rises, newest_in}

@@ -1,9 +1,9 @@
 -- What the small calls of a replica rest on.
-use Rattle.std.proofs.Common.{◌≡◌, ◌≢◌, ℕ, ◌≤◌, ◌<◌, ◌+◌, ◌-◌, List, [], ◌∷◌, ◌++◌, Bool, true, false, not, cond, nat_lt, refl, sym, ap, subst, ◌∙◌, inl, inr, arith, length, take, drop, reverse, Option, None, Some, zero, suc, get_or}
+use Rattle.std.proofs.Common.{◌≡◌, ◌≢◌, ℕ, ◌≤◌, ◌<◌, ◌+◌, ◌-◌, List, [], ◌∷◌, ◌++◌, Bool, true, false, not, cond, nat_lt, refl, sym, ap, subst, ◌∙◌, arith, length, take, drop, reverse, Option, None, Some, zero, suc, get_or}
 use Rattle.std.proofs.Math.ListN.{set}
 use Rattle.std.proofs.lemmas.Bool.Decides.{nat_tests}
 use Rattle.std.proofs.lemmas.List.{length-reverse}
-use Rattle.std.proofs.lemmas.Option.{slice_get_past, slice_get-get_or, slice_get_within}
+use Rattle.std.proofs.lemmas.Option.{slice_get_past, slice_get-get_or}
 use Rattle.std.specs.List.{Contains, slice_get}
 use Rattle.std.specs.Option.{IfSome}
 use Rattle.std.specs.Cmp.Lexicographic.{pointwise}
@@ -15,7 +15,6 @@ use Rattle.braid_ids.proofs.Members.{no_gap, member_at}
 use Rattle.braid_ids.proofs.Rising.{same_bytes}
 use Rattle.braid_change.specs.Updates.{UpdateView}
 use Rattle.braid_graph.specs.Entries.{HoldsAll}
-use Rattle.braid_tree.specs.Trees.{Member}
 use Rattle.braid_tree.proofs.Keys.{ids_strict, eq_true, eq_itself}
 use Rattle.braid_text.specs.Histories.{graph_of, elements_of, deletions_of}
 use Rattle.braid_text.specs.Answers.{IsAnswer, HasRoom, answer_to, needs_of, room_of}
@@ -29,7 +28,7 @@ use Rattle.braid_outbox.specs.Writes.{last_id, with_unsent}
 use Rattle.braid_outbox.specs.Learns.{confirm, has_first, acked}
 use Rattle.braid_outbox.specs.Kept.{picked, replica_in, IsKept}
 use Rattle.braid_outbox.proofs.Picked.{picked_at, picked_past}
-use Rattle.braid_outbox.proofs.Keeping.{all_is, alike, within, confirmed_length, with_confirmed, confirmed_kept, with_one_unsent, unsent_kept, with_first, first_kept, first_is}
+use Rattle.braid_outbox.proofs.Keeping.{all_is, alike, within, confirmed_length, with_confirmed, confirmed_kept, with_one_unsent, unsent_kept, with_first, first_kept}
 
 -- the first of the second part stands behind the first part
 first_behind : (xs ys : List UpdateView) (n : ℕ) → n ≡ length xs → slice_get (xs ++ ys) n ≡ slice_get ys 0

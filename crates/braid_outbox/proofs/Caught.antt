@@ -1,5 +1,5 @@
 -- A replica that read to the end, or that holds a frontier, has the graph below it.
-use Rattle.std.proofs.Common.{◌≡◌, ℕ, List, Bool, true, not, sym, ap, subst, ◌∙◌, inl, inr, ◌⊎◌, filter, take, drop, reverse, Option, Some, None, take-append-drop}
+use Rattle.std.proofs.Common.{◌≡◌, ℕ, List, true, not, sym, ap, subst, ◌∙◌, inl, inr, ◌⊎◌, take, drop, reverse, Option, Some, None, take-append-drop}
 use Rattle.std.proofs.lemmas.List.{reverse-append, take_all}
 use Rattle.braid_change.specs.Updates.{UpdateView}
 use Rattle.braid_tree.specs.Trees.{Member}

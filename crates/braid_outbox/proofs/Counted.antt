@@ -1,6 +1,5 @@
 -- How many pure merges a write makes.
-use Rattle.std.proofs.Common.{◌≡◌, ℕ, ◌<◌, ◌≤◌, ◌+◌, ◌-◌, ◌*◌, ◌/◌, ◌%◌, ◌^◌, List, [], ◌∷◌, Bool, true, false, cond, nat_le, refl, sym, ap, subst, ◌∙◌, arith, length, Option, Some, zero, suc}
-use Rattle.std.proofs.lemmas.Nat.{div-add-mod', div-mul-add}
+use Rattle.std.proofs.Common.{◌≡◌, ℕ, ◌<◌, ◌≤◌, ◌+◌, ◌-◌, ◌^◌, List, [], ◌∷◌, Bool, true, false, cond, nat_le, refl, sym, subst, arith, length, Option, Some, zero, suc}
 use Rattle.std.proofs.lemmas.Bool.Decides.{nat_tests}
 use Rattle.braid_ids.specs.Agents.{IsAgent}
 use Rattle.braid_change.specs.declared.change.Change.TheVariants.{Patches}

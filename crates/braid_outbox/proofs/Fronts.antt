@@ -1,8 +1,7 @@
 -- Frontiers of logs: their members and their order, the parents of a pure merge, and how much narrower a merge makes them.
-use Rattle.std.proofs.Common.{◌≡◌, ℕ, ◌≤◌, ◌<◌, ◌+◌, List, [], ◌∷◌, Bool, true, false, not, cond, refl, sym, ap, subst, ◌∙◌, inl, inr, ◌⊎◌, arith, take, filter, length, suc, zero, Less, Option, Some, None, length-take}
+use Rattle.std.proofs.Common.{◌≡◌, ℕ, ◌≤◌, ◌<◌, ◌+◌, List, [], ◌∷◌, false, not, refl, sym, ap, subst, ◌∙◌, inl, inr, arith, take, filter, length, suc, zero, Less, Option, Some, None, length-take}
 use Rattle.std.proofs.lemmas.List.Filters.{length-filter_both}
 use Rattle.std.proofs.lemmas.List.Kept.{IsStrictlySortedBy-filter}
-use Rattle.std.specs.List.{Contains, AllByRecursion}
 use Rattle.std.specs.List.Sorted.{IsStrictlySortedBy}
 use Rattle.std.specs.Ordering.{is_eq}
 use Rattle.braid_ids.specs.Identifiers.{id_cmp}

@@ -1,29 +1,27 @@
 -- A replica's resource and order of numbers after each step: they stay what the replica keeps, and the two lists grow or move as they should.
-use Rattle.std.proofs.Common.{◌≡◌, ◌↔◌, ℕ, ◌≤◌, ◌<◌, ◌+◌, ◌-◌, List, [], ◌∷◌, ◌++◌, Bool, true, false, refl, sym, ap, subst, ◌∙◌, inl, inr, ◌⊎◌, arith, length, take, drop, reverse, Option, None, Some, zero, suc, length-append, length-take, append_assoc, length-set}
+use Rattle.std.proofs.Common.{◌≡◌, ◌↔◌, ℕ, ◌<◌, ◌+◌, ◌-◌, List, [], ◌∷◌, ◌++◌, Bool, true, false, refl, sym, ap, subst, ◌∙◌, inl, inr, ◌⊎◌, arith, length, take, drop, reverse, Option, None, Some, zero, suc, length-append, length-take, append_assoc, length-set}
 use Rattle.std.proofs.Math.ListN.{set}
 use Rattle.std.proofs.lemmas.List.{take-append-le, drop-append-le, length-drop, length-map, length-reverse}
 use Rattle.std.specs.List.{Contains, slice_get}
 use Rattle.std.proofs.lemmas.Option.{slice_get_within}
 use Rattle.braid_ids.specs.MarkSets.{IsMarked}
-use Rattle.braid_ids.proofs.Members.{no_gap, slice_get_push}
+use Rattle.braid_ids.proofs.Members.{no_gap}
 use Rattle.braid_change.specs.Updates.{UpdateView}
-use Rattle.braid_graph.specs.Entries.{Holds, HoldsAll}
+use Rattle.braid_graph.specs.Entries.{HoldsAll}
 use Rattle.braid_graph.proofs.Kept.{take_next}
 use Rattle.braid_tree.specs.Trees.{Member}
 use Rattle.braid_tree.specs.Elements.{element_of}
 use Rattle.braid_tree.proofs.Member.{member_append_left, member_append_right, member_append_cases}
-use Rattle.braid_rebase.proofs.Members.{contains_member, member_contains, in_log, from_log}
-use Rattle.braid_text.specs.Versions.{Version, has_version, versions_in, deletions_by, elements_by}
+use Rattle.braid_rebase.proofs.Members.{contains_member, member_contains}
+use Rattle.braid_text.specs.Versions.{deletions_by, elements_by}
 use Rattle.braid_text.specs.Histories.{Follows, IsLegal, IsLegalLog, MayFollow, SameGraph, added_by, deletions_of, elements_of, graph_of}
 use Rattle.braid_text.specs.Answers.{HasRoom, needs_of, room_of}
 use Rattle.braid_text.specs.Alike.{AreAlike}
-use Rattle.braid_text.specs.declared.room.Room.{Room}
 use Rattle.braid_text.proofs.Alike.{are_alike}
 use Rattle.braid_text.proofs.Held.{new_in}
-use Rattle.braid_text.proofs.Logs.{Has, IsPartOf, holds_has, has_holds, has_part, not_has, not_held, follows_there, follows_held, compatible_parts, legal_back, legal_between}
-use Rattle.braid_text.proofs.Public.{elements_more, deletions_more, legal_more, log_push}
-use Rattle.braid_text.proofs.Ties.{holds_log, log_holds}
-use Rattle.braid_outbox.specs.Replicas.{ReplicaView, IsSound, IsChained, all_of, limits_with}
+use Rattle.braid_text.proofs.Logs.{Has, holds_has, not_has, not_held, follows_there, follows_held, compatible_parts, legal_back, legal_between}
+use Rattle.braid_text.proofs.Public.{elements_more, deletions_more, legal_more}
+use Rattle.braid_outbox.specs.Replicas.{ReplicaView, IsSound, all_of, limits_with}
 use Rattle.braid_outbox.specs.Writes.{last_id, with_unsent}
 use Rattle.braid_outbox.specs.Learns.{confirm}
 use Rattle.braid_outbox.specs.Kept.{with_found, picked, replica_in, IsKept}
@@ -31,7 +29,7 @@ use Rattle.braid_outbox.proofs.Merges.{chained_more}
 use Rattle.braid_outbox.proofs.Additions.{log_parts, log_more}
 use Rattle.braid_outbox.proofs.Moves.{confirms, to_log, of_log}
 use Rattle.braid_outbox.proofs.Marking.{marked_more, marked_same, marked_set}
-use Rattle.braid_outbox.proofs.Picked.{AreWithin, picked_parts, picked-append, picked_longer, picked_last, picked_length, picked_number, number_picked, picked_at}
+use Rattle.braid_outbox.proofs.Picked.{AreWithin, picked_parts, picked-append, picked_longer, picked_last, picked_length}
 
 -- a number put between two parts
 take_between : (xs ys : List ℕ) (n : ℕ) → take (suc (length xs)) (xs ++ n ∷ ys) ≡ xs ++ n ∷ []

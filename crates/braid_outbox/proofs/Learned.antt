@@ -1,16 +1,16 @@
 -- What a replica answers, by how the update stands in it and which of its parents are confirmed.
-use Rattle.std.proofs.Common.{◌≡◌, ◌≢◌, ℕ, List, [], ◌∷◌, ◌++◌, Bool, true, false, cond, refl, sym, ap, subst, ◌∙◌, inl, inr, ◌⊎◌, length, reverse, Option, None, Some, unwrap_or, option_map}
-use Rattle.std.specs.List.{Contains, slice_get}
+use Rattle.std.proofs.Common.{◌≡◌, ◌≢◌, ℕ, List, [], ◌∷◌, ◌++◌, Bool, true, false, cond, refl, sym, ap, subst, ◌∙◌, inl, inr, length, reverse, Option, None, Some, unwrap_or, option_map}
+use Rattle.std.specs.List.{Contains}
 use Rattle.braid_change.specs.Updates.{UpdateView}
 use Rattle.braid_change.specs.Splices.{first_past}
-use Rattle.braid_graph.specs.Entries.{Holds, HoldsAll}
+use Rattle.braid_graph.specs.Entries.{Holds}
 use Rattle.braid_tree.specs.Trees.{Member}
 use Rattle.braid_tree.proofs.Member.{member_append_left, member_append_right, member_append_cases}
 use Rattle.braid_rebase.proofs.Members.{contains_member, member_contains}
 use Rattle.braid_rebase.specs.Additions.{chars_of}
-use Rattle.braid_text.specs.Versions.{seen_in, text_in, versions_in}
+use Rattle.braid_text.specs.Versions.{text_in, versions_in}
 use Rattle.braid_text.specs.Histories.{graph_of, IsLegalLog}
-use Rattle.braid_text.specs.Refusals.{answer_in, find_in, first_missing, first_full, first_there, judge_held, needs_in, refusal_in, same_update}
+use Rattle.braid_text.specs.Refusals.{find_in, first_missing, first_full, first_there, same_update}
 use Rattle.braid_text.specs.Answers.{answer_to, needs_of, refusal_to, room_of}
 use Rattle.braid_text.specs.declared.room.Room.{Room}
 use Rattle.braid_text.specs.declared.accept.Accept.{Accept}
@@ -20,12 +20,10 @@ use Rattle.braid_text.proofs.Held.{one_update}
 use Rattle.braid_text.proofs.Judged.{updates_Decide, found, not_found, none_missing, missing_none}
 use Rattle.braid_text.proofs.Logs.{Has, has, has_holds, holds_has, compatible_parts, legal_back}
 use Rattle.braid_text.proofs.Same.{same_read}
-use Rattle.braid_text.proofs.Ties.{holds_log, log_holds}
 use Rattle.braid_outbox.specs.declared.learn.Learn.{Learn}
 use Rattle.braid_outbox.specs.declared.learn.Learn.TheVariants.{Memory as NoMemory}
-use Rattle.braid_text.specs.Rooms.{replica_limits}
 use Rattle.braid_outbox.specs.Replicas.{ReplicaView, IsSound, all_of}
-use Rattle.braid_outbox.specs.Learns.{confirm, is_first, clash, Learnt, Confirmed, Judged, learn_answer, learnt, learn, told}
+use Rattle.braid_outbox.specs.Learns.{is_first, clash, Learnt, Confirmed, Judged, learn_answer, learnt, learn, told}
 use Rattle.braid_outbox.specs.Standings.{IsNext}
 use Rattle.braid_outbox.proofs.Additions.{log_parts}
 use Rattle.braid_outbox.proofs.Moves.{to_log, of_log, apart, chained_before}

@@ -1,30 +1,29 @@
 -- A replica that is made of two lists, one update after the other.
-use Rattle.std.proofs.Common.{◌≡◌, ◌≢◌, ◌↔◌, ℕ, ◌<◌, ◌≤◌, ◌+◌, ◌-◌, List, Bool, true, false, not, [], ◌∷◌, ◌++◌, refl, sym, ap, subst, ◌∙◌, inl, inr, ◌⊎◌, arith, length, filter, take, drop, reverse, Option, None, Some, zero, suc, length-append, length-take, append_assoc, append-nil}
+use Rattle.std.proofs.Common.{◌≡◌, ◌≢◌, ◌↔◌, ℕ, ◌<◌, ◌≤◌, ◌+◌, ◌-◌, List, Bool, true, not, [], ◌∷◌, ◌++◌, refl, sym, ap, subst, ◌∙◌, inl, arith, length, take, reverse, Some, zero, suc, length-append, append_assoc, append-nil}
 use Rattle.std.proofs.lemmas.List.{take_all, length-reverse, length-map}
 use Rattle.std.proofs.lemmas.List.Filters.{length-filter_both}
 use Rattle.std.specs.List.{Contains, slice_get}
 use Rattle.braid_ids.proofs.Inserted.{rising_within}
 use Rattle.braid_change.specs.Updates.{UpdateView}
-use Rattle.braid_graph.specs.Entries.{HoldsAll, ids_of}
+use Rattle.braid_graph.specs.Entries.{ids_of}
 use Rattle.braid_graph.specs.Frontiers.{heads_of, is_head}
 use Rattle.braid_graph.proofs.Collected.{ids_length}
 use Rattle.braid_graph.proofs.Kept.{take_next}
-use Rattle.braid_rebase.proofs.Members.{contains_member, member_contains}
 use Rattle.braid_text.specs.Histories.{entry_of, graph_of, IsLegal, MayFollow, elements_of, deletions_of}
 use Rattle.braid_text.specs.Refusals.{first_missing}
-use Rattle.braid_text.specs.Answers.{HasRoom, answer_to, needs_of, room_of}
+use Rattle.braid_text.specs.Answers.{answer_to, room_of}
 use Rattle.braid_text.specs.declared.room.Room.{Room}
 use Rattle.braid_text.specs.declared.accept.Accept.{Accept}
 use Rattle.braid_text.specs.declared.accept.Accept.TheVariants.{New}
 use Rattle.braid_text.proofs.Judged.{missing_none}
 use Rattle.braid_text.proofs.Logs.{follows_held}
 use Rattle.braid_text.proofs.Public.{legal_more, new_exact, width_after}
-use Rattle.braid_outbox.specs.Replicas.{ReplicaView, IsSound, IsChained, all_of, frontier, limits_with}
-use Rattle.braid_outbox.specs.Writes.{last_id, with_unsent}
+use Rattle.braid_outbox.specs.Replicas.{ReplicaView, IsChained, all_of, frontier, limits_with}
+use Rattle.braid_outbox.specs.Writes.{last_id}
 use Rattle.braid_outbox.specs.Kept.{replica_in, IsKept}
 use Rattle.braid_outbox.specs.declared.faults.BadReplica.{BadReplica}
 use Rattle.braid_outbox.specs.declared.faults.BadReplica.TheVariants.{Entry, Memory}
-use Rattle.braid_outbox.specs.Made.{IsFine, IsFineTo, IsFirstBad, IsFirstFault, IsTooWide, IsBadReplica, MakesReplica}
+use Rattle.braid_outbox.specs.Made.{IsFine, IsFirstBad, IsFirstFault, IsTooWide, IsBadReplica, MakesReplica}
 use Rattle.braid_outbox.proofs.Keeping.{alike, elements_grow, deletions_grow}
 use Rattle.braid_outbox.proofs.ReadNow.{few_now}
 

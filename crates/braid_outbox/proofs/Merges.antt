@@ -26,7 +26,7 @@ use Rattle.braid_outbox.specs.Replicas.{IsChained, frontier, greatest_number}
 use Rattle.braid_outbox.specs.Writes.{next_in, merge_parents, merges_in, last_id}
 use Rattle.braid_outbox.proofs.Shapes.{built_from}
 use Rattle.braid_outbox.proofs.Names.{IsName, next_new, next_greatest}
-use Rattle.braid_outbox.proofs.Fronts.{frontier_cases, frontier_rises, newest_in, narrower, merge_in, merge_few, merge_rises, merge_names}
+use Rattle.braid_outbox.proofs.Fronts.{frontier_cases, newest_in, narrower, merge_in, merge_few, merge_rises, merge_names}
 
 filter_same : {A : Type 0} (p q : A → Bool) (xs : List A) → ((x : A) → Member x xs → p x ≡ q x) → filter p xs ≡ filter q xs
 filter_same p q [] h = refl

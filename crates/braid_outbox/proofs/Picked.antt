@@ -1,11 +1,9 @@
 -- Updates picked by their arrival numbers.
-use Rattle.std.proofs.Common.{◌≡◌, ℕ, ◌<◌, ◌≤◌, List, [], ◌∷◌, ◌++◌, refl, sym, ap, subst, ◌∙◌, inl, inr, ◌⊎◌, arith, length, take, drop, Option, None, Some, zero, suc, take-append-drop}
-use Rattle.std.specs.List.{Contains, slice_get}
-use Rattle.std.proofs.lemmas.Option.{slice_get_within}
-use Rattle.braid_ids.proofs.Members.{slice_get-append_left, slice_get_push, no_gap, place_of, member_at}
+use Rattle.std.proofs.Common.{◌≡◌, ℕ, ◌<◌, List, [], ◌∷◌, ◌++◌, refl, sym, ap, subst, ◌∙◌, inl, inr, length, take, drop, Option, None, Some, zero, suc, take-append-drop}
+use Rattle.std.specs.List.{slice_get}
+use Rattle.braid_ids.proofs.Members.{slice_get-append_left, slice_get_push, no_gap}
 use Rattle.braid_change.specs.Updates.{UpdateView}
 use Rattle.braid_tree.specs.Trees.{Member}
-use Rattle.braid_rebase.proofs.Members.{contains_member, member_contains}
 use Rattle.braid_outbox.specs.Kept.{with_found, picked}
 
 with_found-append : (o : Option UpdateView) (us ws : List UpdateView) → with_found o (us ++ ws) ≡ with_found o us ++ ws

@@ -1,6 +1,6 @@
 -- The laws over lists of events, and of every sound replica.
-use Rattle.std.proofs.Common.{◌≡◌, ℕ, List, [], ◌∷◌, ◌++◌, Bool, true, length-append, inl, inr, reverse, subst, sym, take, length, arith, Some}
-use Rattle.std.specs.List.{Contains, slice_get}
+use Rattle.std.proofs.Common.{◌≡◌, ℕ, List, [], ◌∷◌, ◌++◌, Bool, true, length-append, inl, inr, reverse, subst, sym, take, length, arith}
+use Rattle.std.specs.List.{Contains}
 use Rattle.std.proofs.lemmas.List.{take_all}
 use Rattle.braid_ids.specs.Agents.{IsAgent}
 use Rattle.braid_change.specs.declared.change.Change.{Change}
@@ -18,7 +18,7 @@ use Rattle.braid_outbox.specs.declared.world.Posted.{Posted}
 use Rattle.braid_outbox.specs.declared.world.Event.{Event}
 use Rattle.braid_outbox.specs.Replicas.{ReplicaView, IsChained, IsSound, frontier}
 use Rattle.braid_outbox.specs.Replicas.{log_of}
-use Rattle.braid_outbox.specs.Writes.{additions, is_written, merges_of, last_number, next_in, updates_needed, with_unsent, write}
+use Rattle.braid_outbox.specs.Writes.{additions, is_written, merges_of, next_in, updates_needed, with_unsent, write}
 use Rattle.braid_outbox.proofs.Written.{numbers_fit}
 use Rattle.braid_outbox.specs.Learns.{acked, learn}
 use Rattle.braid_outbox.specs.Worlds.{replica_of, kept_of, land_answer}

@@ -1,5 +1,5 @@
 -- What is read of a replica, and where it resumes.
-use Rattle.std.proofs.Common.{◌≡◌, ◌↔◌, ℕ, ◌<◌, ◌≤◌, ◌+◌, List, Bool, [], ◌∷◌, ◌++◌, refl, sym, ap, subst, ◌∙◌, inl, inr, arith, length, map, take, drop, reverse, Option, None, Some, zero, suc, length-append, length-take}
+use Rattle.std.proofs.Common.{◌≡◌, ◌↔◌, ℕ, ◌<◌, ◌≤◌, ◌+◌, List, Bool, [], ◌∷◌, ◌++◌, refl, sym, ap, subst, ◌∙◌, arith, length, take, reverse, Some, zero, suc, length-append, length-take}
 use Rattle.std.proofs.lemmas.List.{take_all, length-map, map-append}
 use Rattle.std.specs.List.{Contains, slice_get}
 use Rattle.std.specs.declared.result.Result.{Result}
@@ -23,7 +23,7 @@ use Rattle.braid_text.proofs.Ties.{legal_graph}
 use Rattle.braid_outbox.specs.Replicas.{ReplicaView, IsSound, all_of, frontier, resume_of}
 use Rattle.braid_outbox.specs.Kept.{replica_in, IsKept}
 use Rattle.braid_outbox.proofs.Additions.{log_parts}
-use Rattle.braid_outbox.proofs.Fronts.{frontier_rises, take_rises, same_rising}
+use Rattle.braid_outbox.proofs.Fronts.{take_rises, same_rising}
 use Rattle.braid_outbox.proofs.Keeping.{alike, all_is, same_graph, within}
 use Rattle.braid_outbox.proofs.Picked.{picked_length}
 

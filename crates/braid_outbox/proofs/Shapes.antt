@@ -1,7 +1,6 @@
 -- What the tests of updates and changes say.
-use Rattle.std.proofs.Common.{◌≡◌, ℕ, ◌<◌, ◌≤◌, ◌^◌, List, [], ◌∷◌, Bool, true, ◌&&◌, nat_le, nat_lt, refl, subst, arith, length, zero, suc, get_or, Less, Equal, Greater, Ordering}
+use Rattle.std.proofs.Common.{◌≡◌, ℕ, ◌<◌, ◌≤◌, ◌^◌, List, [], ◌∷◌, true, ◌&&◌, nat_le, nat_lt, refl, arith, length, zero, suc, get_or, Less, Equal, Greater, Ordering}
 use Rattle.std.proofs.lemmas.Bool.Decides.{nat_tests}
-use Rattle.std.specs.List.{AllByRecursion}
 use Rattle.std.specs.List.Sorted.{IsStrictlySortedBy}
 use Rattle.std.specs.Ordering.{is_lt}
 use Rattle.std.specs.Str.{all_scalars}
@@ -12,7 +11,6 @@ use Rattle.braid_change.specs.declared.change.Change.{Change}
 use Rattle.braid_change.specs.declared.change.Change.TheVariants.{Body, Patches}
 use Rattle.braid_change.specs.Changes.{patches_of, content_len, AreListed, AreNumbered, HaveScalars, AreScalars, IsShaped}
 use Rattle.braid_change.specs.Updates.{UpdateView, IsBuilt}
-use Rattle.braid_tree.specs.Trees.{Member}
 use Rattle.braid_tree.proofs.Member.{all_member, all_from_members}
 use Rattle.braid_tree.proofs.Keys.{ids_strict}
 use Rattle.braid_text.proofs.Whole.{and_cases}

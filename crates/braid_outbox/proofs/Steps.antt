@@ -1,5 +1,5 @@
 -- Each event keeps the invariant, and so does every list of them.
-use Rattle.std.proofs.Common.{◌≡◌, ℕ, ◌≤◌, List, [], ◌∷◌, ◌++◌, Bool, true, false, ◌&&◌, ◌||◌, ◌==◌, not, cond, refl, sym, ap, subst, ◌∙◌, inl, inr, arith, filter, map, take, length, reverse, Option, Some, None, is_some, unwrap_or, length-append, append_assoc}
+use Rattle.std.proofs.Common.{◌≡◌, ℕ, List, [], ◌∷◌, ◌++◌, Bool, true, false, ◌&&◌, ◌||◌, ◌==◌, not, cond, refl, sym, ap, subst, ◌∙◌, inl, inr, arith, filter, map, take, length, reverse, Option, Some, None, is_some, unwrap_or, length-append, append_assoc}
 use Rattle.std.proofs.lemmas.List.{reverse-append, take-append-le}
 use Rattle.std.proofs.lemmas.List.Elements.{filter-append}
 use Rattle.std.proofs.lemmas.Bool.Decides.{nat_tests}

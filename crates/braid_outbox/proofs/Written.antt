@@ -1,5 +1,5 @@
 -- What a write rests on: the agent's numbers, the next pure merge at each step, and what a change needs.
-use Rattle.std.proofs.Common.{◌≡◌, ◌≢◌, ◌↔◌, ℕ, ◌<◌, ◌≤◌, ◌+◌, ◌-◌, ◌^◌, List, Bool, true, false, ◌&&◌, not, cond, nat_lt, nat_le, [], ◌∷◌, ◌++◌, refl, sym, ap, subst, ◌∙◌, inl, inr, arith, length, min, max, filter, take, reverse, Option, None, Some, IsSome, is_some, unwrap_or, zero, suc, length-append, append_assoc, append-nil}
+use Rattle.std.proofs.Common.{◌≡◌, ◌↔◌, ℕ, ◌<◌, ◌≤◌, ◌+◌, ◌-◌, ◌^◌, List, Bool, true, false, ◌&&◌, not, cond, nat_lt, nat_le, [], ◌∷◌, ◌++◌, refl, sym, ap, subst, ◌∙◌, inl, arith, length, min, max, filter, take, reverse, Option, None, Some, IsSome, is_some, unwrap_or, zero, suc, length-append, append_assoc, append-nil}
 use Rattle.std.proofs.lemmas.List.{reverse-append, take_all, take-append-le, take-append-drop, length-map}
 use Rattle.std.proofs.lemmas.List.Elements.{filter-append}
 use Rattle.std.proofs.lemmas.List.Filters.{length-filter_both}
@@ -21,16 +21,16 @@ use Rattle.braid_change.specs.declared.change.Change.{Change}
 use Rattle.braid_change.specs.declared.change.Change.TheVariants.{Body, Patches}
 use Rattle.braid_change.specs.Changes.{IsShaped}
 use Rattle.braid_change.specs.Updates.{UpdateView}
-use Rattle.braid_change.specs.Splices.{cut, joined, ranges, spliced, inserted, removed}
+use Rattle.braid_change.specs.Splices.{cut, ranges, spliced, inserted, removed}
 use Rattle.braid_change.proofs.Pieces.{splice_len}
 use Rattle.braid_graph.proofs.Kept.{take_next}
 use Rattle.braid_rebase.specs.Additions.{char_of}
 use Rattle.braid_rebase.proofs.Joins.{inserts_few}
 use Rattle.braid_rebase.proofs.Members.{contains_member, member_contains}
-use Rattle.braid_text.specs.Versions.{document_in, sees, seen_in, ancestors_in, versions_in}
-use Rattle.braid_text.specs.Histories.{text_of, text_at, seen_at, ancestors_at, document_of, elements_of, versions_at}
+use Rattle.braid_text.specs.Versions.{sees}
+use Rattle.braid_text.specs.Histories.{text_of, text_at, seen_at, ancestors_at, document_of, elements_of}
 use Rattle.braid_text.specs.Refusals.{first_full}
-use Rattle.braid_text.specs.Answers.{HasRoom, IsOver, needs_of, room_of}
+use Rattle.braid_text.specs.Answers.{IsOver, room_of}
 use Rattle.braid_text.specs.declared.room.Room.{Room}
 use Rattle.braid_text.specs.declared.room.Which.{Which}
 use Rattle.braid_text.specs.declared.accept.Accept.{Accept}
@@ -40,12 +40,12 @@ use Rattle.braid_text.proofs.Whole.{and_cases}
 use Rattle.braid_outbox.specs.Shapes.{is_change}
 use Rattle.braid_text.specs.Rooms.{replica_limits}
 use Rattle.braid_outbox.specs.Replicas.{ReplicaView, IsSound, all_of, log_of, frontier, number, greatest_number}
-use Rattle.braid_outbox.specs.Writes.{next_in, last_id, merged_of, merge_parents, merges_in, merges_of, merges_needed, next_merge, updates_needed, last_number, write_needs, is_written, additions, with_unsent, write, Fits, AddsMerges}
+use Rattle.braid_outbox.specs.Writes.{next_in, last_id, merged_of, merge_parents, merges_in, merges_of, merges_needed, next_merge, last_number, write_needs, is_written, additions, with_unsent, write, AddsMerges}
 use Rattle.braid_outbox.proofs.Shapes.{lt_to, lt_from, shaped_from}
 use Rattle.braid_outbox.proofs.Names.{number_name, number_is, next_greatest}
 use Rattle.braid_outbox.proofs.Calls.{other_id, same_id}
 use Rattle.braid_outbox.proofs.Fronts.{merge_names, same_rising}
-use Rattle.braid_outbox.proofs.Merges.{turned, last_more, Added}
+use Rattle.braid_outbox.proofs.Merges.{turned, last_more}
 use Rattle.braid_outbox.proofs.Additions.{merges_well, merges_counted, last_in}
 
 -- the number of an identifier

@@ -1,5 +1,5 @@
 -- A replica as it is seen, when it is sound, where it resumes, and the numbers of its agent's versions.
-use Rattle.std.specs.Prelude.{ℕ, List, [], ◌∷◌, ◌++◌, ◌+◌, ◌^◌, max, nat_lt, length, take, drop, reverse, Bool, ◌&&◌, if◌then◌else◌, Option, Some, None, unwrap_or, Contains}
+use Rattle.std.specs.Prelude.{ℕ, List, [], ◌∷◌, ◌++◌, ◌+◌, ◌^◌, max, nat_lt, length, take, drop, reverse, ◌&&◌, if◌then◌else◌, Option, Some, None, unwrap_or, Contains}
 use Rattle.std.specs.Ordering.{is_eq}
 use Rattle.std.specs.Str.Parse.{digits_value}
 use Rattle.braid_ids.specs.Identifiers.{id_cmp}

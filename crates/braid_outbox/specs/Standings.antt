@@ -1,5 +1,5 @@
 -- How an update that is given stands among a replica's.
-use Rattle.std.specs.Prelude.{◌≡◌, ◌⊎◌, ℕ, true, false, Contains}
+use Rattle.std.specs.Prelude.{◌≡◌, ◌⊎◌, true, false, Contains}
 use Rattle.braid_change.specs.Updates.{UpdateView}
 use Rattle.braid_graph.specs.Entries.{Holds}
 use Rattle.braid_text.specs.Histories.{graph_of}

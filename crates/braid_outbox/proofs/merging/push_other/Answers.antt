@@ -1,4 +1,3 @@
-use Rattle.std.proofs.Common.{ap}
 use Rattle.braid_outbox.proofs.Written.{other_pushed, same_left}
 use Rattle.braid_outbox.proofs.merging.push_other.Goals as goal
 

@@ -1,5 +1,5 @@
-use Rattle.braid_outbox.proofs.Calls.{other_first, same_first, not_acked, is_acked, some_first}
-use Rattle.std.proofs.Common.{sym, ap, ◌∙◌, Some}
+use Rattle.braid_outbox.proofs.Calls.{other_first, same_first, not_acked, is_acked}
+use Rattle.std.proofs.Common.{sym, ap, ◌∙◌}
 use Rattle.std.specs.Option.{option_copied}
 use Rattle.braid_outbox.proofs.replica.Replica.acked.Goals as goal
 

@@ -1,4 +1,4 @@
-use Rattle.std.proofs.Common.{List, refl, ap, ◌∙◌, [], ◌∷◌}
+use Rattle.std.proofs.Common.{refl, ap, ◌∙◌, [], ◌∷◌}
 use Rattle.braid_change.specs.Updates.{UpdateView}
 use Rattle.braid_outbox.specs.Replicas.{ReplicaView}
 use Rattle.braid_outbox.specs.Writes.{with_unsent}

@@ -1,5 +1,5 @@
 use Rattle.std.proofs.Common.{refl}
-use Rattle.braid_outbox.proofs.Calls.{room_fits, answer_now, confirmed_view, confirmed_next, same_view, same_kept}
+use Rattle.braid_outbox.proofs.Calls.{room_fits, answer_now, confirmed_view, confirmed_next, same_view}
 use Rattle.braid_outbox.proofs.replica.Replica.add_confirmed.Goals as goal
 
 pub accept-requires-clause-versions : goal.accept-requires-clause-versions

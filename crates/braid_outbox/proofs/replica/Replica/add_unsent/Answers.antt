@@ -1,5 +1,5 @@
 use Rattle.std.proofs.Common.{refl}
-use Rattle.braid_outbox.proofs.Calls.{room_fits, answer_now, unsent_view, unsent_next, same_view, same_kept}
+use Rattle.braid_outbox.proofs.Calls.{room_fits, answer_now, unsent_view, unsent_next, same_view}
 use Rattle.braid_outbox.proofs.replica.Replica.add_unsent.Goals as goal
 
 pub accept-requires-clause-versions : goal.accept-requires-clause-versions

@@ -1,4 +1,4 @@
-use Rattle.braid_outbox.proofs.ReadNow.{graph_new, graph_held, graph_few, graph_next, graph_all}
+use Rattle.braid_outbox.proofs.ReadNow.{graph_new, graph_held, graph_next}
 use Rattle.std.proofs.Common.{arith, ◌∙◌}
 use Rattle.braid_outbox.proofs.replica.Replica.confirmed_graph.Goals as goal
 

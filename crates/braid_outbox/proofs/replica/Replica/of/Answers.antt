@@ -25,19 +25,19 @@ returns-in_err-load_unsent-clause-fault c =
 
 pub overflow_sub-result : goal.overflow_sub-result
 overflow_sub-result c = let q = c.load_unsent.new.self in
-    omega (arith, c.if-width-gt-MOST_WIDE.true, c.width.ensures.width, frontier_few (all_of q), length-append q.confirmed q.unsent, c.confirmed.ensures.count, c.unsent.ensures.count)
+    omega (arith, c.if-width.true, c.width.ensures.width, frontier_few (all_of q), length-append q.confirmed q.unsent, c.confirmed.ensures.count, c.unsent.ensures.count)
 
-pub returns-then-width-gt-MOST_WIDE-clause-fault : goal.returns-then-width-gt-MOST_WIDE-clause-fault
-returns-then-width-gt-MOST_WIDE-clause-fault c = let q = c.load_unsent.new.self in
+pub returns-then-width-clause-fault : goal.returns-then-width-clause-fault
+returns-then-width-clause-fault c = let q = c.load_unsent.new.self in
     inr (too_wide q c.args.confirmed.items c.args.unsent.items c.width.result _
     (ap (λ (r : ReplicaView). r.confirmed) c.in_ok-load_unsent.ensures.ok ∙ ap (λ (r : ReplicaView). r.confirmed) c.in_ok-load_confirmed.ensures.ok ∙ c.deref.ensures.value)
     (ap (λ (r : ReplicaView). r.unsent) c.in_ok-load_unsent.ensures.ok ∙ c.deref-2.ensures.value)
-    c.confirmed.ensures.fine c.width.ensures.width (omega (arith, c.if-width-gt-MOST_WIDE.true))
-    (omega (arith, c.if-width-gt-MOST_WIDE.true, c.width.ensures.width, frontier_few (all_of q), length-append q.confirmed q.unsent, c.confirmed.ensures.count, c.unsent.ensures.count)))
+    c.confirmed.ensures.fine c.width.ensures.width (omega (arith, c.if-width.true))
+    (omega (arith, c.if-width.true, c.width.ensures.width, frontier_few (all_of q), length-append q.confirmed q.unsent, c.confirmed.ensures.count, c.unsent.ensures.count)))
 
 pub returns-clause-made : goal.returns-clause-made
 returns-clause-made c = let q = c.load_unsent.new.self in
     makes q c.args.confirmed.items c.args.unsent.items c.width.result
     (ap (λ (r : ReplicaView). r.confirmed) c.in_ok-load_unsent.ensures.ok ∙ ap (λ (r : ReplicaView). r.confirmed) c.in_ok-load_confirmed.ensures.ok ∙ c.deref.ensures.value)
     (ap (λ (r : ReplicaView). r.unsent) c.in_ok-load_unsent.ensures.ok ∙ c.deref-2.ensures.value)
-    c.confirmed.ensures.fine c.width.ensures.width (omega (arith, c.if-width-gt-MOST_WIDE.false))
+    c.confirmed.ensures.fine c.width.ensures.width (omega (arith, c.if-width.false))

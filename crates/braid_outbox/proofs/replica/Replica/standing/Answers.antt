@@ -1,8 +1,8 @@
-use Rattle.std.proofs.Common.{List, ℕ, inl, inr, sym, subst, ap, ◌∙◌, arith, refl}
+use Rattle.std.proofs.Common.{List, ℕ, inl, inr, sym, subst, ◌∙◌, arith, refl}
 use Rattle.braid_graph.specs.Entries.{Holds}
 use Rattle.braid_text.specs.Histories.{graph_of}
 use Rattle.braid_outbox.specs.Replicas.{all_of}
-use Rattle.braid_outbox.proofs.Found.{sound_now, nowhere, gap, inside, is_other, is_confirmed, is_unsent}
+use Rattle.braid_outbox.proofs.Found.{nowhere, gap, inside, is_other, is_confirmed, is_unsent}
 use Rattle.braid_outbox.proofs.replica.Replica.standing.Goals as goal
 
 pub unreachable-requires : goal.unreachable-requires
