@@ -1,4 +1,4 @@
-ghost use Rattle.std.specs.Prelude.{◌≡◌, [], ◌∷◌, ◌++◌, ◌<◌, false};
+ghost use Rattle.std.specs.Prelude.{◌≡◌, [], ◌∷◌, ◌<◌, false};
 ghost use Rattle.std.specs.Fmt.{digits, digit_glyph};
 ghost use Rattle.braid_change.specs.Spellings.{canonical};
 ghost use Rattle.braid_fields.specs.Chunks.{chunk, beat, last_chunk};
@@ -11,74 +11,71 @@ use braid_io::{Sink, WriteEnd};
 
 /// Writes a stream of updates as a chunked body (RFC 9112, section 7.1), through a buffer of 8,192 bytes.
 ///
-/// Each update is one chunk with its canonical spelling. A call writes in as few writes as the buffer allows, and
-/// leaves nothing waiting. It borrows its sink until it is dropped, and takes no memory.
+/// Each update is one chunk with its canonical spelling. A call writes in as few writes as the buffer allows, and leaves
+/// nothing waiting, so the buffer stands in the call. It borrows its sink until it is dropped, and takes no memory.
 ///
-/// Errors: `WriteFault` at the first write that fails, where the sink's count of faults rose in that call; a front of
-/// what the call writes was then written. No call answers `Memory`.
+/// Errors: `WriteFault` at the first write that fails, where the sink's count of faults rose in that call; a front of what
+/// the call writes was then written. No call answers `Memory`.
 #[derive(Drop)]
 pub struct StreamWriter<'a, S: Sink> {
-    out: Buffered<'a, S>,
+    sink: &'a mut S,
 }
 
 impl<'a, S: Sink> StreamWriter<'a, S> {
     /// A writer before a sink that has written nothing.
     pub fn new(sink: &'a mut S) -> StreamWriter<'a, S>
-        ensures same_sink { result.out.sink.ghost_name ≡ sink.entry.ghost_name }
-        ensures sink { result.out.sink.now ≡ sink.old }
+        ensures same_sink { result.sink.ghost_name ≡ sink.entry.ghost_name }
+        ensures sink { result.sink.now ≡ sink.old }
     {
-        StreamWriter {
-            out: Buffered::new(sink),
-        }
+        StreamWriter { sink }
     }
 
     /// Writes an update as one chunk.
     pub fn put(&mut self, update: &Update) -> Result<(), WriteEnd>
-        ensures written { IsWritten result (chunk (canonical update.now)) (S.outflow self.old.out.sink.now)
-            (S.outflow self.new.out.sink.now) }
-        ensures kept { S.beside_writes self.new.out.sink.now ≡ S.beside_writes self.old.out.sink.now }
-        ensures same_sink { self.new.out.sink.ghost_name ≡ self.old.out.sink.ghost_name }
+        ensures written { IsWritten result (chunk (canonical update.now)) (S.outflow self.old.sink.now)
+            (S.outflow self.new.sink.now) }
+        ensures kept { S.beside_writes self.new.sink.now ≡ S.beside_writes self.old.sink.now }
+        ensures same_sink { self.new.sink.ghost_name ≡ self.old.sink.ghost_name }
     {
-        self.out.begin();
-        put_chunk(update, &mut self.out);
-        self.out.end()
+        let mut out = Buffered::new(self.sink);
+        put_chunk(update, &mut out);
+        out.end()
     }
 
-    /// Writes updates as one chunk each, in their order, behind bytes that are written as they are.
-    pub fn put_all(&mut self, first: &[u8], updates: &[Update]) -> Result<(), WriteEnd>
-        ensures written { IsWritten result (first.now ++ chunks updates.now) (S.outflow self.old.out.sink.now)
-            (S.outflow self.new.out.sink.now) }
-        ensures kept { S.beside_writes self.new.out.sink.now ≡ S.beside_writes self.old.out.sink.now }
-        ensures same_sink { self.new.out.sink.ghost_name ≡ self.old.out.sink.ghost_name }
+    /// Writes updates as one chunk each, in their order.
+    pub fn put_all(&mut self, updates: &[Update]) -> Result<(), WriteEnd>
+        ensures written { IsWritten result (chunks updates.now) (S.outflow self.old.sink.now)
+            (S.outflow self.new.sink.now) }
+        ensures kept { S.beside_writes self.new.sink.now ≡ S.beside_writes self.old.sink.now }
+        ensures same_sink { self.new.sink.ghost_name ≡ self.old.sink.ghost_name }
     {
-        self.out.begin();
-        self.out.put(first);
-        put_chunks(updates, &mut self.out);
-        self.out.end()
+        let mut out = Buffered::new(self.sink);
+        put_chunks(updates, &mut out);
+        out.end()
     }
 
     /// Writes a chunk of an empty line, which shows a reader that the stream goes on.
     pub fn beat(&mut self) -> Result<(), WriteEnd>
-        ensures written { IsWritten result beat (S.outflow self.old.out.sink.now)
-            (S.outflow self.new.out.sink.now) }
-        ensures kept { S.beside_writes self.new.out.sink.now ≡ S.beside_writes self.old.out.sink.now }
-        ensures same_sink { self.new.out.sink.ghost_name ≡ self.old.out.sink.ghost_name }
+        ensures written { IsWritten result beat (S.outflow self.old.sink.now)
+            (S.outflow self.new.sink.now) }
+        ensures kept { S.beside_writes self.new.sink.now ≡ S.beside_writes self.old.sink.now }
+        ensures same_sink { self.new.sink.ghost_name ≡ self.old.sink.ghost_name }
     {
-        self.out.begin();
-        self.out.put(b"2\r\n\r\n\r\n");
-        self.out.end()
+        let mut out = Buffered::new(self.sink);
+        out.put(b"2\r\n\r\n\r\n");
+        out.end()
     }
 
     /// Writes the last chunk, which ends the body.
     pub fn finish(&mut self) -> Result<(), WriteEnd>
-        ensures written { IsWritten result last_chunk (S.outflow self.old.out.sink.now)
-            (S.outflow self.new.out.sink.now) }
-        ensures kept { S.beside_writes self.new.out.sink.now ≡ S.beside_writes self.old.out.sink.now }
-        ensures same_sink { self.new.out.sink.ghost_name ≡ self.old.out.sink.ghost_name }
+        ensures written { IsWritten result last_chunk (S.outflow self.old.sink.now)
+            (S.outflow self.new.sink.now) }
+        ensures kept { S.beside_writes self.new.sink.now ≡ S.beside_writes self.old.sink.now }
+        ensures same_sink { self.new.sink.ghost_name ≡ self.old.sink.ghost_name }
     {
-        self.out.begin();
-        self.out.put(b"0\r\n\r\n");
-        self.out.end()
+        let mut out = Buffered::new(self.sink);
+        out.put(b"0\r\n\r\n");
+        out.end()
     }
 }
 
