@@ -30,17 +30,6 @@ impl<'a, S: Sink> Buffered<'a, S> {
         }
     }
 
-    /// Lets go what waits, and forgets that a write failed.
-    pub fn begin(&mut self)
-        ensures same_sink { self.new.sink.ghost_name ≡ self.old.sink.ghost_name }
-        ensures sink { self.new.sink.now ≡ self.old.sink.now }
-        ensures none { self.new.held ≡ [] }
-        ensures sound { self.new.failed ≡ false }
-    {
-        self.held.clear();
-        self.failed = false;
-    }
-
     /// Writes what waits. All that was put since the buffer was empty and no write had failed is then written; or a
     /// front of it, and the sink's count of faults rose.
     ///
