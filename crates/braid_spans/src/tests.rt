@@ -67,7 +67,7 @@ fn type_chars<D: Document>(
     at: u32,
     text: &[char],
 ) -> Result<(), Fail>
-    requires few { length (D.stamps doc.old) < 1000 }
+    requires few { length (D.stamps doc.old) < 2000 }
     ensures begun { OnOk result (length (D.stamps doc.new) ≡ length (D.stamps doc.old) + 1) }
 {
     let id = Id::read(alloc, author.name.as_bytes())?;
@@ -84,7 +84,7 @@ fn type_seen<D: Document>(
     at: u32,
     text: &[char],
 ) -> Result<(), Fail>
-    requires few { length (D.stamps doc.old) < 1000 }
+    requires few { length (D.stamps doc.old) < 2000 }
     ensures begun { OnOk result (length (D.stamps doc.new) ≡ length (D.stamps doc.old) + 1) }
 {
     check(doc.elements() < 1_000_000 && text.len() < 1_000_000, "few")?;
@@ -107,7 +107,7 @@ fn type_text<D: Document>(
     at: u32,
     text: &str,
 ) -> Result<(), Fail>
-    requires few { length (D.stamps doc.old) < 1000 }
+    requires few { length (D.stamps doc.old) < 2000 }
     ensures begun { OnOk result (length (D.stamps doc.new) ≡ length (D.stamps doc.old) + 1) }
 {
     let mut chars = Vec::new(alloc);
@@ -126,7 +126,7 @@ fn delete_chars<D: Document>(
     from: u32,
     count: u32,
 ) -> Result<(), Fail>
-    requires few { length (D.stamps doc.old) < 1000 }
+    requires few { length (D.stamps doc.old) < 2000 }
     requires next { number ≡ length (D.stamps doc.old) }
     ensures begun { OnOk result (length (D.stamps doc.new) ≡ number + 1) }
 {
@@ -145,7 +145,7 @@ fn delete_seen<D: Document>(
     from: u32,
     count: u32,
 ) -> Result<(), Fail>
-    requires few { length (D.stamps doc.old) < 1000 }
+    requires few { length (D.stamps doc.old) < 2000 }
     requires next { number ≡ length (D.stamps doc.old) }
     ensures begun { OnOk result (length (D.stamps doc.new) ≡ number + 1) }
 {
@@ -257,22 +257,34 @@ const SEES: [&str; 8] = [
 
 const LETTERS: [char; 12] = ['a', 'b', 'c', 'd', 'e', 'f', 'g', 'h', 'i', 'j', 'k', 'l'];
 
-/// Eight versions that type or delete at places that a seed gives.
-fn write_story<D: Document>(alloc: Global, doc: &mut D, start: u32) -> Result<(), Fail>
-    requires new { length (D.stamps doc.old) ≡ 0 }
-{
-    let mut seed = start;
-    for n in 0..8 {
-        let author = by(NAMES[n as usize], n + 1, SEES[n as usize]);
-        let at = next(&mut seed) % 12;
-        let count = next(&mut seed) % 6 + 1;
-        if next(&mut seed) % 3 == 0 {
-            delete_chars(alloc, doc, n, author, at, count)?;
-        } else {
-            type_chars(alloc, doc, author, at, &LETTERS[..count as usize])?;
-        }
+/// This many letters.
+fn letters(alloc: Global, count: u32) -> Result<Vec<char>, Fail> {
+    let mut text = Vec::new(alloc);
+    for k in 0..count {
+        text.push(LETTERS[k as usize % 12])?;
     }
-    Ok(())
+    Ok(text)
+}
+
+/// One of eight versions types up to 600 characters, or deletes up to 40, at a place that a seed gives.
+fn write_version<D: Document>(
+    alloc: Global,
+    doc: &mut D,
+    n: u32,
+    seed: &mut u32,
+) -> Result<(), Fail>
+    requires one { n < 8 }
+    requires next { n ≡ length (D.stamps doc.old) }
+    ensures begun { OnOk result (length (D.stamps doc.new) ≡ n + 1) }
+{
+    let author = by(NAMES[n as usize], n + 1, SEES[n as usize]);
+    let at = next(seed) % 700;
+    let count = next(seed) % 600 + 1;
+    if next(seed) % 3 == 0 {
+        return delete_chars(alloc, doc, n, author, at, count % 40 + 1);
+    }
+    let text = letters(alloc, count)?;
+    type_chars(alloc, doc, author, at, &text)
 }
 
 /// Whether two documents answer alike what these versions ask.
@@ -284,8 +296,8 @@ fn same_answers<A: Document, B: Document>(
 ) -> Result<bool, Fail> {
     let marks = marks_of(alloc, digits)?;
     let text = a.text(alloc, &marks)?;
-    let places = a.visible_between(alloc, &marks, 2, 9)?;
-    let others = b.visible_between(alloc, &marks, 2, 9)?;
+    let places = a.visible_between(alloc, &marks, 2, 900)?;
+    let others = b.visible_between(alloc, &marks, 2, 900)?;
     Ok(
         text.as_slice() == b.text(alloc, &marks)?.as_slice()
             && a.len(&marks) == b.len(&marks)
@@ -294,21 +306,29 @@ fn same_answers<A: Document, B: Document>(
     )
 }
 
-#[test]
-fn runs_answer_as_rows_do(rt: HostRuntime) -> Result<(), Fail> {
-    let alloc = rt.alloc();
-    for start in 1..30 {
-        let mut rows = PlainDocument::new(alloc);
-        let mut runs = SpanDocument::new(alloc);
-        write_story(alloc, &mut rows, start)?;
-        write_story(alloc, &mut runs, start)?;
+/// Eight versions of a seed write into both documents, which answer alike after each.
+fn write_both(alloc: Global, start: u32) -> Result<(), Fail> {
+    let mut rows = PlainDocument::new(alloc);
+    let mut runs = SpanDocument::new(alloc);
+    let mut seed = start;
+    for n in 0..8 {
+        let mut same = seed;
+        write_version(alloc, &mut rows, n, &mut same)?;
+        write_version(alloc, &mut runs, n, &mut seed)?;
         for digits in ["11111111", "10101010", "01010101", "11111", "1011"] {
             check(same_answers(alloc, &rows, &runs, digits)?, "the answers")?;
         }
-        check(
-            rows.elements() == runs.elements() && rows.deletions() == runs.deletions(),
-            "the counts",
-        )?;
+    }
+    check(
+        rows.elements() == runs.elements() && rows.deletions() == runs.deletions(),
+        "the counts",
+    )
+}
+
+#[test]
+fn runs_answer_as_rows_do(rt: HostRuntime) -> Result<(), Fail> {
+    for start in 1..11 {
+        write_both(rt.alloc(), start)?;
     }
     Ok(())
 }
@@ -413,4 +433,31 @@ fn blocks_that_are_cut_answer_as_rows_do(rt: HostRuntime) -> Result<(), Fail> {
     check(same_first(alloc, &rows, &runs, 601)?, "after a deletion")?;
     check(same_first(alloc, &rows, &runs, 600)?, "before it")?;
     check(runs.runs() > 768, "more runs than three blocks hold")
+}
+
+/// A run of 10,000 characters, and one character each by 1,000 versions that see all before them, each inside the last part
+/// of the run.
+fn type_inside<D: Document>(alloc: Global, doc: &mut D) -> Result<(), Fail>
+    requires new { length (D.stamps doc.old) ≡ 0 }
+{
+    let run = letters(alloc, 10_000)?;
+    type_chars(alloc, doc, by("a-0", 1, ""), 0, &run)?;
+    for n in 1..1_001 {
+        let marks = first_marks(alloc, n)?;
+        let letter = LETTERS[n as usize % 12];
+        type_seen(doc, name_of(alloc, n)?, n + 1, &marks, n * 10, &[letter])?;
+    }
+    Ok(())
+}
+
+#[test]
+fn a_run_that_is_cut_often_answers_as_rows_do(rt: HostRuntime) -> Result<(), Fail> {
+    let alloc = rt.alloc();
+    let mut rows = PlainDocument::new(alloc);
+    let mut runs = SpanDocument::new(alloc);
+    type_inside(alloc, &mut rows)?;
+    type_inside(alloc, &mut runs)?;
+    check(same_first(alloc, &rows, &runs, 1_001)?, "all versions")?;
+    check(same_first(alloc, &rows, &runs, 500)?, "half of them")?;
+    check(runs.runs() == 2_001, "the runs")
 }

@@ -1,5 +1,5 @@
 use Rattle.std.proofs.Common.{◌≡◌, length}
-use Rattle.braid_spans.proofs.tests.write_story.Given as goal
+use Rattle.braid_spans.proofs.tests.type_inside.Given as goal
 
 abbrev pub invariant-loop-n : goal.invariant-loop-n
 invariant-loop-n g l = length (g.D.Document.stamps l.doc) ≡ l.n
