@@ -23,8 +23,8 @@ use std::marker::Model;
 /// is kept for. A block of runs that was cut is half empty, so runs take up to twice their bytes.
 ///
 /// The runs stand in blocks of at most 256, each with its number of runs and of elements that nothing deletes. A run or
-/// a deletion looks its element up in the block of the last change, then from the one where a run of its version was put
-/// last on, passes over the blocks' numbers, and changes one block; where that is full it is cut in two. A version that
+/// a deletion looks its element up in the blocks where a run of its version or of its characters was put last and where
+/// the last change was, then in all, passes over the blocks' numbers, and changes one block; where that is full it is cut in two. A version that
 /// deletes neighbours one after the other leaves one run more of them, or two. Where the marks hold every version `len`
 /// takes constant time, and `visible_at` and `visible_between` pass over the blocks' counts and then look into the blocks
 /// that they reach; else they are one pass over the runs, as `text` is.
@@ -156,7 +156,10 @@ impl Document for SpanDocument {
         self.versions.reserve(versions as usize)?;
         self.chars.reserve(elements as usize)?;
         self.links.reserve(deletions as usize)?;
-        self.runs.reserve_homes(versions as usize)?;
+        self.runs.reserve_homes(
+            self.versions.len() + versions as usize,
+            self.chars.len() + elements as usize,
+        )?;
         self.runs
             .reserve(2 * (elements as usize + deletions as usize))?;
         self.left = Left {

@@ -17,7 +17,7 @@ use std::marker::Model;
 ///
 /// A full block is cut in two. `sums` has of each block how many runs it holds and how many of their elements nothing
 /// deletes, so a run is found by its number by a pass over them. `last` is the block of the last change, and `homes` has
-/// the block where a run of each version was put last: a look-up begins there, and nothing rests on them.
+/// the blocks where runs were put last: a look-up begins there, and nothing rests on them.
 #[derive(Drop)]
 pub struct Runs {
     blocks: Vec<Block>,
@@ -139,7 +139,7 @@ impl Runs {
         self.room -= 1;
         self.last = spot.block;
         self.homes.follow_cut(&self.blocks, count, gap.block);
-        self.homes.note(run.first.version, spot.block);
+        self.homes.note(&run, spot.block);
     }
 
     /// Takes run number `i` out.
@@ -156,23 +156,22 @@ impl Runs {
         self.last = spot.block;
     }
 
-    /// Makes room to note the places of this many more versions.
+    /// Makes room to note the places of runs of so many versions and characters in all.
     ///
     /// Errors: `Memory` where there was none.
-    pub fn reserve_homes(&mut self, more: usize) -> Result<(), Memory>
+    pub fn reserve_homes(&mut self, versions: usize, chars: usize) -> Result<(), Memory>
         ensures kept { self.new ≡ self.old }
     {
-        self.homes.reserve(more)?;
+        self.homes.reserve(versions, chars)?;
         Ok(())
     }
 
-    /// The number of the run that holds the element at a place. It looks from the block of the last change or that where
-    /// a run of the element's version was put last on to the end, then before it.
+    /// The number of the run that holds the element at a place. It looks into the blocks where it may stand, then into all.
     pub fn find(&self, at: At) -> usize
         requires there { (i : ℕ) × IsHeldAt self.now.list at i }
         ensures found { IsHeldAt self.now.list at result }
     {
-        let near = nearest(&self.blocks, self.last, self.homes.get(at.version), at);
+        let near = self.nearest(at);
         let last = near.min(self.blocks.len());
         if let Some(index) = find_in(&self.blocks[last..], at) {
             return count_runs(&self.sums[..last]) + index;
@@ -181,6 +180,21 @@ impl Runs {
             Some(index) => index,
             None => unreachable!(),
         }
+    }
+
+    /// The block that holds the element at a place, where it is one of those in which a look-up begins: where a run of its
+    /// version or of its characters was put last, and where the last change was, each with the blocks beside it. Else the
+    /// first.
+    fn nearest(&self, at: At) -> usize {
+        let [home, part] = self.homes.guesses(at);
+        for guess in [home, part, self.last] {
+            for block in [guess, guess.wrapping_sub(1), guess.wrapping_add(1)] {
+                if is_in_block(&self.blocks, block, at) {
+                    return block;
+                }
+            }
+        }
+        0
     }
 
     /// The blocks that the runs stand in.
@@ -199,17 +213,11 @@ impl Runs {
     }
 }
 
-/// The block where a look-up begins: the one of the last change where it holds the element, else the home.
-fn nearest(blocks: &[Block], last: usize, home: Option<usize>, at: At) -> usize {
-    let Some(home) = home else {
-        return last;
-    };
-    let Some(block) = blocks.get(last) else {
-        return home;
-    };
-    match index_in(block.runs(), at) {
-        Some(_) => last,
-        None => home,
+/// Whether a block with this number holds the element at a place.
+fn is_in_block(blocks: &[Block], block: usize, at: At) -> bool {
+    match blocks.get(block) {
+        Some(runs) => index_in(runs.runs(), at).is_some(),
+        None => false,
     }
 }
 
