@@ -1,6 +1,6 @@
 -- Runs and places of ranges: one range more, and of a piece of the places that reaches over all ranges.
 use Rattle.std.proofs.Common.{◌≡◌, ℕ, zero, suc, ◌+◌, ◌-◌, ◌<◌, ◌≤◌, List, [], ◌∷◌, ◌++◌, Option, length, take, drop, get_or, refl, sym, ap, subst, ◌∙◌, arith, append_assoc, slice_get}
-use Rattle.std.proofs.lemmas.List.{map-append, drop_more, length-drop, length-take-le, drop-take}
+use Rattle.std.proofs.lemmas.List.{append-nil, take_all, map-append, drop_more, length-drop, length-take-le, drop-take}
 use Rattle.std.proofs.lemmas.List.Sums.{sum_by-cons, sum_by-append}
 use Rattle.braid_ids.proofs.Members.{slice_get-take}
 use Rattle.braid_change.specs.declared.patch.Patch.{Patch}
@@ -161,3 +161,16 @@ module _ (places part : List At) (rs : List Patch) (first to : ℕ) (a : first �
 pub place_behind : (places : List At) (n : ℕ) → (n ≡ 0 → ⊥) → place_before places n ≡ slice_get places (n - 1)
 place_behind places zero ne = absurd (ne refl)
 place_behind places (suc n) ne = let e : n ≡ suc n - 1 = omega arith in ap (slice_get places) e
+
+-- one range over all places
+pub whole_places : (places : List At) (first : ℕ) (rs : List Patch) (r : Patch) → length rs ≡ 1 → r ≡ get_or rs 0 r → r.start ≡ first → r.end ≡ first + length places → places_at places (moved first rs) ≡ places
+whole_places places first [] r one is from to = absurd (omega (arith, one))
+whole_places places first (q ∷ (p ∷ rs)) r one is from to = absurd (omega (arith, one))
+whole_places places first (q ∷ []) r one is from to =
+    let same : r ≡ q = is in
+    let zero : q.start - first ≡ 0 = omega (arith, ap (λ (t : Patch). t.start) same, from) in
+    let all : (q.end - first) - (q.start - first) ≡ length places = omega (arith, ap (λ (t : Patch). t.start) same, ap (λ (t : Patch). t.end) same, from, to) in
+    append-nil (take ((q.end - first) - (q.start - first)) (drop (q.start - first) places))
+    ∙ ap (λ (n : ℕ). take n (drop (q.start - first) places)) all
+    ∙ ap (λ (n : ℕ). take (length places) (drop n places)) zero
+    ∙ take_all (length places) places (omega arith)

@@ -3,10 +3,12 @@ ghost use Rattle.braid_graph.specs.Entries.{HoldsAll};
 ghost use Rattle.braid_graph.specs.Levels.{greatest_by, level_of};
 ghost use Rattle.braid_tree.specs.Rows.{Row};
 ghost use Rattle.braid_rebase.specs.declared.resolving.RebaseFault.TheVariants.{Memory as NoMemory};
-ghost use Rattle.braid_rebase.specs.Resolved.{IsSeenAt, IsResolved, IsRebaseFault};
+ghost use Rattle.braid_change.specs.Splices.{AreRanges, inserted};
+ghost use Rattle.braid_rebase.specs.Pieces.{moved};
+ghost use Rattle.braid_rebase.specs.Resolved.{IsSeenAt, IsResolved, IsRebaseFault, runs_at, places_at};
 
 use crate::reaching::{Reach, reach_of};
-use crate::run::{Run, deletes_in, runs_in};
+use crate::run::{Run, deletes_in, is_whole, runs_in};
 use braid_change::Update;
 use braid_graph::Graph;
 use braid_ids::Memory;
@@ -86,15 +88,39 @@ pub fn resolve<D: Document>(
         return Err(RebaseFault::Memory);
     };
     let reach = reach_of(alloc, doc, &marks, update.change())?;
+    let level = graph.level_above(update.parents());
+    let resolved = resolve_reach(alloc, reach, level)?;
+    Ok(resolved)
+}
+
+/// What ranges insert and delete, by the places that they reach over.
+///
+/// Where all of these go, as under a body, their list is handed on and not copied.
+fn resolve_reach(alloc: Global, reach: Reach, level: u32) -> Result<Resolved, Memory>
+    requires ranges { AreRanges reach.first (reach.first + length reach.places.items) reach.ranges.items }
+    requires few { inserted reach.ranges.items < 2 ^ 32 }
+    ensures runs { IfOk result (λ resolved. resolved.runs.items
+        ≡ runs_at reach.places.items 0 (moved reach.first reach.ranges.items)) }
+    ensures deletes { IfOk result (λ resolved. resolved.deletes.items
+        ≡ places_at reach.places.items (moved reach.first reach.ranges.items)) }
+    ensures level { IfOk result (λ resolved. resolved.level ≡ level) }
+{
     let Reach {
         ranges,
         first,
         places,
         ..
     } = reach;
+    if is_whole(&places, first, &ranges) {
+        let runs = runs_in(alloc, &places, first, ranges)?;
+        return Ok(Resolved {
+            runs,
+            deletes: places,
+            level,
+        });
+    }
     let deletes = deletes_in(alloc, &places, first, &ranges)?;
     let runs = runs_in(alloc, &places, first, ranges)?;
-    let level = graph.level_above(update.parents());
     Ok(Resolved {
         runs,
         deletes,

@@ -1,4 +1,4 @@
-ghost use Rattle.std.specs.Prelude.{◌≡◌, ◌+◌, ◌<◌, ◌^◌, IfOk, length};
+ghost use Rattle.std.specs.Prelude.{◌≡◌, ◌+◌, ◌<◌, ◌^◌, IfOk, IsTrue, length};
 ghost use Rattle.braid_change.specs.Splices.{AreRanges, inserted};
 ghost use Rattle.braid_rebase.specs.Pieces.{moved};
 ghost use Rattle.braid_rebase.specs.Resolved.{place_before, runs_at, places_at};
@@ -71,4 +71,16 @@ pub fn deletes_in(
         deletes.extend_from_slice(&places[start..end])?;
     }
     Ok(deletes)
+}
+
+/// Whether one range reaches over all of the places, from the first one to the end of the last: then they are those within
+/// the ranges.
+pub fn is_whole(places: &[At], first: u32, ranges: &[Patch]) -> bool
+    ensures whole { IsTrue result → places_at places.now (moved first ranges.now) ≡ places.now }
+{
+    if ranges.len() != 1 {
+        return false;
+    }
+    let range = &ranges[0];
+    range.start == first && range.end as usize == first as usize + places.len()
 }
