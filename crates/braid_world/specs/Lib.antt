@@ -1,0 +1,4 @@
+pub mod Events
+pub mod ReplicaCalls
+pub mod BookCalls
+pub mod Progress
