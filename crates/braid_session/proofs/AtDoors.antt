@@ -1,9 +1,9 @@
 -- Sessions of a door, one after another.
-use Rattle.std.proofs.Common.{◌≡◌, ℕ, ◌≤◌, ◌<◌, ◌+◌, ◌-◌, false, List, [], ◌∷◌, ◌++◌, Option, None, Some, refl, ap, sym, ◌∙◌, subst, length, arith, append_assoc, append-nil, length-append}
+use Rattle.std.proofs.Common.{◌≡◌, ℕ, ◌≤◌, ◌+◌, false, List, [], ◌∷◌, ◌++◌, Option, None, Some, refl, ap, sym, ◌∙◌, subst, length, arith, append_assoc, append-nil, length-append}
 use Rattle.std.specs.Prelude.{flat_map}
 use Rattle.std.specs.List.{AllByRecursion}
 use Rattle.std.proofs.lemmas.List.{map-append}
-use Rattle.braid_io.specs.Outside.{Intake, Outflow, Rose, IsNewLink, HasOne, one_fewer, joint_count}
+use Rattle.braid_io.specs.Outside.{Intake, Outflow, Rose, IsNewLink, joint_count}
 use Rattle.braid_io.specs.Bells.{Ringing}
 use Rattle.braid_io.specs.Doors.{Visit, Doorway, Admits, PutsBack}
 use Rattle.braid_hall.specs.Passes.{PassView}
@@ -14,18 +14,20 @@ use Rattle.braid_session.specs.declared.session.SessionNote.{SessionNote}
 use Rattle.braid_session.specs.declared.worker.WorkerEnd.{WorkerEnd}
 use Rattle.braid_session.specs.declared.worker.WorkerEnd.TheVariants.{DoorEnd, DoorFault, Worn, Memory}
 use Rattle.braid_session.specs.Sessions.{Placed}
-use Rattle.braid_session.specs.Ends.{Passed, Rung, Serves}
-use Rattle.braid_session.specs.Doors.{Session, FitsVisit, notes_of, marks_of, added_of, visits_of, with_visits, more_by, read_faults_with, write_faults_with, Visited, DoorFaultsOnlyAt, EndsWorker}
+use Rattle.braid_session.specs.Ends.{Passed}
+use Rattle.braid_session.specs.Watches.{BellUse, IsHeard, more_by}
+use Rattle.braid_session.specs.Fits.{Serves}
+use Rattle.braid_session.specs.Doors.{Session, FitsVisit, notes_of, marks_of, added_of, agains_of, HeardInTurn, visits_of, with_visits, read_faults_with, write_faults_with, Visited, DoorFaultsOnlyAt, EndsWorker}
 use Rattle.braid_session.specs.DoorSteps.{ServesLink, IsUnserved, Accepted, HasServed, HasEnded}
-use Rattle.braid_session.proofs.Passing.{passed_none, passed_both, rung_both, within}
+use Rattle.braid_session.proofs.Passing.{passed_none, passed_both, more_both, more_none, one_left, heard_none, heard_both, within}
 use Rattle.braid_session.proofs.Lasting.{fits_later, all_both, all_two}
 
 -- the session of a link that was put back so
-abbrev pub session_of : (note : SessionNote) → List Placed → Intake → Outflow → Session
-session_of note entries intake outflow = record { note = note; entries = entries; visit = record { intake = intake; outflow = outflow } }
+abbrev pub session_of : (note : SessionNote) → List Placed → BellUse → Intake → Outflow → Session
+session_of note entries heard intake outflow = record { note = note; entries = entries; heard = heard; visit = record { intake = intake; outflow = outflow } }
 
 fits_of : (s : Serving) (note : SessionNote) (p q : PassView Entry) (from to : Intake) (before after : Outflow) (bell rung : Ringing)
-    → (x : Serves s note p q from to before after bell rung) → IsNewLink from before → FitsVisit s q.number q.seen q.look (session_of note x.entries to after)
+    → (x : Serves s note p q from to before after bell rung) → IsNewLink from before → FitsVisit s q.number q.seen q.look (session_of note x.entries x.heard to after)
 fits_of s note p q from to before after bell rung x fresh = record {
   from = from;
   before = before;
@@ -33,13 +35,6 @@ fits_of s note p q from to before after bell rung x fresh = record {
   fits = x.fits;
   within = within (length p.seen) (length q.seen) note.marks.items x.entries x.passed.between;
 }
-
-one_left : (o : Option ℕ) → HasOne o → o ≡ more_by 1 (one_fewer o)
-one_left None h = refl
-one_left (Some n) h = ap Some (go n h)
-  where
-    go : (n : ℕ) → 0 < n → n ≡ (n - 1) + 1
-    go n h = omega (arith, h)
 
 -- one link came and was put back
 visited_one : (old middle new : Doorway) (from to : Intake) (before after : Outflow) → Admits from before old middle → PutsBack to after middle new
@@ -55,12 +50,13 @@ visited_one old middle new from to before after a b = record {
 pub link_served : (s : Serving) (note : SessionNote) (p q : PassView Entry) (from to : Intake) (before after : Outflow) (bell rung : Ringing)
     (notes more : List SessionNote) (old middle new : Doorway) → Admits from before old middle → (x : Serves s note p q from to before after bell rung)
     → PutsBack to after middle new → more ≡ notes ++ note ∷ []
-    → ServesLink s (session_of note x.entries to after) p q notes more old new bell rung
+    → ServesLink s (session_of note x.entries x.heard to after) p q notes more old new bell rung
 link_served s note p q from to before after bell rung notes more old middle new a x b noted = record {
   fits = fits_of s note p q from to before after bell rung x a.fresh;
   noted = noted;
   passed = x.passed;
   rings = x.rings;
+  left = x.left;
   door = visited_one old middle new from to before after a b;
   faults = b.faults ∙ ap (λ (d : Doorway). d.faults) a.moved;
 }
@@ -70,13 +66,13 @@ pub accepted_last : (s : Serving) (note : SessionNote) (p q : PassView Entry) (f
     (notes more : List SessionNote) (old middle new : Doorway) → Admits from before old middle → Serves s note p q from to before after bell rung
     → PutsBack to after middle new → more ≡ notes ++ note ∷ [] → note.end ≡ ends.Worn → Accepted s (Some Worn) p q notes more old new bell rung
 accepted_last s note p q from to before after bell rung notes more old middle new a x b noted is =
-    (session_of note x.entries to after, link_served s note p q from to before after bell rung notes more old middle new a x b noted, is)
+    (session_of note x.entries x.heard to after, link_served s note p q from to before after bell rung notes more old middle new a x b noted, is)
 
 pub accepted_one : (s : Serving) (note : SessionNote) (p q : PassView Entry) (from to : Intake) (before after : Outflow) (bell rung : Ringing)
     (notes more : List SessionNote) (old middle new : Doorway) → Admits from before old middle → Serves s note p q from to before after bell rung
     → PutsBack to after middle new → more ≡ notes ++ note ∷ [] → (note.end ≡ ends.Worn → ⊥) → Accepted s None p q notes more old new bell rung
 accepted_one s note p q from to before after bell rung notes more old middle new a x b noted not =
-    (session_of note x.entries to after, link_served s note p q from to before after bell rung notes more old middle new a x b noted, not)
+    (session_of note x.entries x.heard to after, link_served s note p q from to before after bell rung notes more old middle new a x b noted, not)
 
 all_visits : (o : Option (List Visit)) (vs ws : List Visit) → with_visits (with_visits o vs) ws ≡ with_visits o (vs ++ ws)
 all_visits None vs ws = refl
@@ -85,20 +81,6 @@ all_visits (Some us) vs ws = ap Some (append_assoc us vs ws)
 no_visits : (o : Option (List Visit)) → o ≡ with_visits o []
 no_visits None = refl
 no_visits (Some us) = ap Some (sym (append-nil us))
-
-more_both : (j k : ℕ) (o : Option ℕ) → more_by j (more_by k o) ≡ more_by (j + k) o
-more_both j k None = refl
-more_both j k (Some n) = ap Some (go n)
-  where
-    go : (n : ℕ) → (n + k) + j ≡ n + (j + k)
-    go n = omega arith
-
-more_none : (o : Option ℕ) → o ≡ more_by 0 o
-more_none None = refl
-more_none (Some n) = ap Some (go n)
-  where
-    go : (n : ℕ) → n ≡ n + 0
-    go n = omega arith
 
 read_both : (n : ℕ) (vs ws : List Visit) → read_faults_with (read_faults_with n vs) ws ≡ read_faults_with n (vs ++ ws)
 read_both n [] ws = refl
@@ -124,13 +106,30 @@ flat_last : {A : Type 0} (f : Session → List A) (xs : List Session) (x : Sessi
 flat_last f [] x = sym (append-nil (f x))
 flat_last f (y ∷ ys) x = append_assoc (f y) (flat_map f ys) (f x) ∙ ap (λ z. f y ++ z) (flat_last f ys x)
 
+agains_last : (xs : List Session) (x : Session) → agains_of (xs ++ x ∷ []) ≡ agains_of xs + x.heard.agains
+agains_last [] x = go x.heard.agains
+  where
+    go : (n : ℕ) → n + 0 ≡ 0 + n
+    go n = omega arith
+agains_last (y ∷ ys) x = ap (λ (n : ℕ). y.heard.agains + n) (agains_last ys x) ∙ go y.heard.agains (agains_of ys) x.heard.agains
+  where
+    go : (i j k : ℕ) → i + (j + k) ≡ (i + j) + k
+    go i j k = omega arith
+
+-- one session more uses the bell behind the others
+turn_last : (told left : Option ℕ) (xs : List Session) (x : Session) → HeardInTurn told xs left → left ≡ more_by x.heard.agains x.heard.left
+    → HeardInTurn told (xs ++ x ∷ []) x.heard.left
+turn_last told left [] x h l = (sym h ∙ l, refl)
+turn_last told left (y ∷ ys) x h l = (h.0, turn_last y.heard.left left ys x h.1 l)
+
 pub served_none : (s : Serving) (p : PassView Entry) (d : Doorway) (bell : Ringing) → p.held ≡ false → HasServed s [] p p d d bell bell
 served_none s p d bell idle = record {
   sessions = [];
   noted = refl;
   fit = tt;
   passed = passed_none p idle;
-  rings = refl;
+  rings = heard_none bell;
+  in_turn = refl;
   door = visited_none d;
   faults = refl;
   none_worn = tt;
@@ -151,9 +150,16 @@ module _ (s : Serving) (p q r : PassView Entry) (notes more : List SessionNote) 
       (λ i. (flat_last (λ (y : Session). y.note.marks.items) h.sessions x i, flat_last (λ (y : Session). y.entries) h.sessions x i))
       (passed_both p q r (marks_of h.sessions) x.note.marks.items (added_of h.sessions) x.entries h.passed l.passed)
 
-  rings_more : (h : HasServed s notes p q a b bell rung) (x : Session) → ServesLink s x q r notes more b c rung again → Rung (length (added_of (h.sessions ++ x ∷ []))) bell again
-  rings_more h x l = subst (λ z. Rung (length z) bell again) (flat_last (λ (y : Session). y.entries) h.sessions x)
-      (rung_both (added_of h.sessions) x.entries bell rung again h.rings l.rings)
+  rings_more : (h : HasServed s notes p q a b bell rung) (x : Session) → ServesLink s x q r notes more b c rung again
+      → IsHeard (agains_of (h.sessions ++ x ∷ [])) (length (added_of (h.sessions ++ x ∷ []))) bell again
+  rings_more h x l = subst (λ (k : ℕ). IsHeard k (length (added_of (h.sessions ++ x ∷ []))) bell again) (sym (agains_last h.sessions x))
+      (subst (λ z. IsHeard (agains_of h.sessions + x.heard.agains) (length z) bell again) (flat_last (λ (y : Session). y.entries) h.sessions x)
+      (heard_both (agains_of h.sessions) x.heard.agains (added_of h.sessions) x.entries bell rung again h.rings l.rings))
+
+  turn_more : (h : HasServed s notes p q a b bell rung) (x : Session) → ServesLink s x q r notes more b c rung again
+      → HeardInTurn bell.answers (h.sessions ++ x ∷ []) again.answers
+  turn_more h x l = subst (λ (o : Option ℕ). HeardInTurn bell.answers (h.sessions ++ x ∷ []) o) l.left
+      (turn_last bell.answers rung.answers h.sessions x h.in_turn (l.rings.answers ∙ ap (more_by x.heard.agains) (sym l.left)))
 
   door_more : (h : HasServed s notes p q a b bell rung) (x : Session) → ServesLink s x q r notes more b c rung again → Visited (visits_of (h.sessions ++ x ∷ [])) a c
   door_more h x l = subst (λ z. Visited z a c) (sym (map-append (λ (y : Session). y.visit) h.sessions (x ∷ [])))
@@ -169,6 +175,7 @@ module _ (s : Serving) (p q r : PassView Entry) (notes more : List SessionNote) 
     fit = fit_more h x l;
     passed = passed_more h x l;
     rings = rings_more h x l;
+    in_turn = turn_more h x l;
     door = door_more h x l;
     faults = l.faults ∙ h.faults;
     none_worn = all_both (λ (y : Session). y.note.end ≡ ends.Worn → ⊥) h.sessions (x ∷ []) h.none_worn (n, tt);
@@ -182,7 +189,8 @@ module _ (s : Serving) (p q r : PassView Entry) (notes more : List SessionNote) 
     noted = u.noted ∙ h.noted;
     fit = subst (λ (z : PassView Entry). AllByRecursion (FitsVisit s z.number z.seen z.look) h.sessions) (sym u.pass) h.fit;
     passed = subst (λ (z : PassView Entry). Passed p z (marks_of h.sessions) (added_of h.sessions)) (sym u.pass) h.passed;
-    rings = u.rings ∙ h.rings;
+    rings = subst (λ (w : Ringing). IsHeard (agains_of h.sessions) (length (added_of h.sessions)) bell w) (sym u.rings) h.rings;
+    in_turn = subst (λ (w : Ringing). HeardInTurn bell.answers h.sessions w.answers) (sym u.rings) h.in_turn;
     door = door;
     faults = faults;
     ends = ends;
@@ -206,6 +214,7 @@ module _ (s : Serving) (p q r : PassView Entry) (notes more : List SessionNote) 
     fit = fit_more h x l;
     passed = passed_more h x l;
     rings = rings_more h x l;
+    in_turn = turn_more h x l;
     door = door_more h x l;
     faults = ((λ z. l.faults ∙ h.faults), (λ z. absurd (cc z)));
     ends = (h.sessions, x, refl, h.none_worn, is);

@@ -1,21 +1,25 @@
 -- How a session that has come so far ends: it stands, it steps, and it ends.
-use Rattle.std.proofs.Common.{◌≡◌, ℕ, ◌+◌, ◌<◌, ◌≤◌, Bool, true, false, true≢false, ◌||◌, List, [], ◌∷◌, ◌++◌, ◌⊎◌, inl, inr, refl, ap, sym, ◌∙◌, length, arith, append-nil, None}
+use Rattle.std.proofs.Common.{◌≡◌, ℕ, ◌+◌, ◌<◌, ◌≤◌, Bool, true, false, true≢false, ◌||◌, List, [], ◌∷◌, ◌++◌, ◌⊎◌, inl, inr, refl, ap, sym, ◌∙◌, subst, length, arith, append-nil, None}
 use Rattle.std.specs.Prelude.{nat_le}
 use Rattle.std.proofs.Math.Seq.{take-append_seam}
 use Rattle.std.specs.Io.KnownBytes.{append_known, prepend_known}
-use Rattle.braid_io.specs.Outside.{Moves, WritesAll}
+use Rattle.braid_io.specs.Outside.{Outflow, Moves, WritesAll}
 use Rattle.braid_http.proofs.Waiting.{moves_both}
 use Rattle.braid_http.specs.Cuts.{is_over}
 use Rattle.braid_http.specs.Replies.{reply_text}
+use Rattle.braid_http.specs.declared.request.Request.{Request}
+use Rattle.braid_store.specs.declared.entry.Entry.{Entry}
 use Rattle.braid_session.specs.declared.serving.Serving.{Serving}
 use Rattle.braid_session.specs.declared.session.SessionEnd.{SessionEnd}
 use Rattle.braid_session.specs.declared.session.SessionEnd.TheVariants.{Closed, Stopped, Spent, Refused, Torn, ReadFault, WriteFault, Worn, Memory}
 use Rattle.braid_session.specs.declared.session.SessionNote.{SessionNote}
-use Rattle.braid_session.specs.declared.serve.Next.TheVariants.{Answered as IsAnswered, Ended}
+use Rattle.braid_session.specs.declared.serve.Next.TheVariants.{Answered as IsAnswered, Subscribed, Ended}
 use Rattle.braid_session.specs.Sessions.{Placed, placed_at, refusal_reply}
-use Rattle.braid_session.specs.Ends.{Passed, Rung, Done, Ends, Serves, FaultsOnlyAt, GainsThese}
+use Rattle.braid_session.specs.Ends.{Passed, Rung, Done, Ends, GainsThese}
+use Rattle.braid_session.specs.Watches.{BellUse, EndsWatch}
+use Rattle.braid_session.specs.Fits.{Serves, FaultsOnlyAt, heads_of}
 use Rattle.braid_session.specs.Steps.{State, Idled, Does}
-use Rattle.braid_session.proofs.Passing.{passed_none, passed_both, rung_both}
+use Rattle.braid_session.proofs.Passing.{passed_none, passed_both, rung_both, heard_rung, heard_then}
 use Rattle.braid_session.proofs.Turns.{length_placed}
 use Rattle.braid_session.proofs.Goings.{Going, going_none, going_more, answered_then, over_of, over_false, over_true, writes_both, writes_none}
 
@@ -52,6 +56,13 @@ step s z c new n close t l d o last = record {
 abbrev pub done_of : (s : Serving) (z c : State) (n : ℕ) (closed : Bool) (text : List ℕ) → Going s z n closed c text → List ℕ → Done
 done_of s z c n closed text g rest = record { requests = g.requests; rest = rest; marks = c.marks; entries = g.entries; text = text }
 
+-- no Again was heard
+abbrev none_heard : State → BellUse
+none_heard c = record { agains = 0; left = c.ringing.answers }
+
+none_more : (n : ℕ) → n ≡ n + 0
+none_more n = omega arith
+
 -- how a session ends that has come so far, where its next request gained these marks and entries, and the bytes that stand
 -- behind what was answered are those held and those that were got
 pub end_at : (s : Serving) (z c new : State) (n : ℕ) (end : SessionEnd) (note : SessionNote) (t : Standing s z n c) (got all ms : List ℕ) (es entries : List Placed)
@@ -64,19 +75,22 @@ pub end_at : (s : Serving) (z c new : State) (n : ℕ) (end : SessionEnd) (note 
     → Serves s note z.pass new.pass z.intake new.intake z.outflow new.outflow z.ringing new.ringing
 end_at s z c new n end note t got all ms es entries whole passed rings marks placed taken left faults e k m ends = record {
   entries = entries;
+  heard = none_heard new;
   fits = record {
     r = t.going.r ++ got;
     done = done_of s z c n t.closed t.text t.going all;
+    begun = false;
     taken = taken;
     left = left;
     faults = rw e faults;
     answered = answered_then s z c n t.closed t.text t.going new.pass ms es got all passed whole;
-    count = k ∙ t.going.number;
+    count = k ∙ t.going.number ∙ none_more (length t.going.requests);
     placed = rw placed both.placed;
-    ends = rw (e, m) ends;
+    ends = inl (record { not_heard = refl; not_begun = refl; ends = rw (e, m) ends });
   };
   passed = rw (m, marks, placed) both;
-  rings = rw placed (rung_both t.going.entries es z.ringing c.ringing new.ringing t.going.rings rings);
+  rings = heard_rung (length entries) z.ringing new.ringing (rw placed (rung_both t.going.entries es z.ringing c.ringing new.ringing t.going.rings rings));
+  left = refl;
 }
   where
     both : Passed z.pass new.pass (c.marks ++ ms) (t.going.entries ++ es)
@@ -202,6 +216,57 @@ finish s z c new n end note t l d e k m = go end d e
           ),
         )
 
+-- no read fails in a subscription
+never_read : (end : SessionEnd) (s : Serving) (by : ℕ) (book : List Entry) (look : ℕ) (q : Request) (marks : List ℕ) (heard : BellUse) (begun : Bool) (before after : Outflow)
+    → EndsWatch end s by book look q marks heard begun before after → end ≡ ReadFault → ⊥
+never_read end s by book look q marks heard begun before after w e = subst (λ (x : SessionEnd). EndsWatch x s by book look q marks heard begun before after) e w
+
+-- the next request was a subscription that was served, with which the session ended
+pub subscribed : (s : Serving) (z c new : State) (n : ℕ) (end : SessionEnd) (begun : Bool) (note : SessionNote) → Standing s z n c → n < 10_000 → Does s (Subscribed end begun) c new
+    → note.end ≡ end → note.requests ≡ n + heads_of begun → note.marks.items ≡ new.marks
+    → Serves s note z.pass new.pass z.intake new.intake z.outflow new.outflow z.ringing new.ringing
+subscribed s z c new n end begun note t l (q, a, w) e k m = record {
+  entries = t.going.entries;
+  heard = heard;
+  fits = record {
+    r = t.going.r ++ a.took.got;
+    done = done_of s z c n t.closed t.text t.going a.all;
+    begun = begun;
+    taken = moved.taken;
+    left = moved.left;
+    faults = rw e (no_fault end z.intake.faults new.intake.faults (never_read end s c.pass.number new.pass.seen new.pass.look q w.new_marks heard begun c.outflow new.outflow w.ends) moved.faults);
+    answered = answered_then s z c n t.closed t.text t.going new.pass w.new_marks [] a.took.got a.all w.passed a.took.all_is;
+    count = k ∙ ap (λ (j : ℕ). j + heads_of begun) t.going.number;
+    placed = both.placed;
+    ends = inr (record {
+      follows = may_follow s z c n t l;
+      request = q;
+      rest = new.wire.held;
+      decided = a.decided;
+      taken = w.new_marks;
+      marks_are = m ∙ w.noted;
+      entries_are = refl;
+      middle = c.outflow;
+      wrote = t.written;
+      ends = subst (λ (x : SessionEnd). EndsWatch x s new.pass.number new.pass.seen new.pass.look q w.new_marks heard begun c.outflow new.outflow) (sym e)
+          (subst (λ (j : ℕ). EndsWatch end s j new.pass.seen new.pass.look q w.new_marks heard begun c.outflow new.outflow) (sym w.passed.number) w.ends);
+    });
+  };
+  passed = subst (λ (ms : List ℕ). Passed z.pass new.pass ms t.going.entries) (sym (m ∙ w.noted)) both;
+  rings = heard_then w.again (length t.going.entries) z.ringing c.ringing new.ringing t.going.rings w.rings;
+  left = refl;
+}
+  where
+    heard : BellUse
+    heard = record { agains = w.again; left = new.ringing.answers }
+
+    moved : Moves (t.going.r ++ a.took.got) z.intake new.intake
+    moved = moves_both t.going.r a.took.got z.intake c.intake new.intake t.going.moves a.took.moves
+
+    both : Passed z.pass new.pass (c.marks ++ w.new_marks) t.going.entries
+    both = subst (λ (es : List Placed). Passed z.pass new.pass (c.marks ++ w.new_marks) es) (append-nil t.going.entries)
+        (passed_both z.pass c.pass new.pass c.marks w.new_marks t.going.entries [] t.going.passed w.passed)
+
 -- a session of which so many requests were answered, after which none follows, where nothing more was read
 pub end_here : (s : Serving) (z c : State) (n : ℕ) (closed : Bool) (text : List ℕ) (end : SessionEnd) (note : SessionNote) (g : Going s z n closed c text)
     → (end ≡ ReadFault → ⊥) → note.end ≡ end → note.requests ≡ n → note.marks.items ≡ c.marks
@@ -209,19 +274,22 @@ pub end_here : (s : Serving) (z c : State) (n : ℕ) (closed : Bool) (text : Lis
     → Serves s note z.pass c.pass z.intake c.intake z.outflow c.outflow z.ringing c.ringing
 end_here s z c n closed text end note g never e k m ends = record {
   entries = g.entries;
+  heard = none_heard c;
   fits = record {
     r = g.r;
     done = done_of s z c n closed text g c.wire.held;
+    begun = false;
     taken = g.moves.taken;
     left = g.moves.left;
     faults = rw e (no_fault end z.intake.faults c.intake.faults never g.moves.faults);
     answered = rw (append-nil g.r) at (answered_then s z c n closed text g c.pass [] [] [] c.wire.held (passed_none c.pass g.passed.idle) (sym (append-nil c.wire.held)));
-    count = k ∙ g.number;
+    count = k ∙ g.number ∙ none_more (length g.requests);
     placed = g.passed.placed;
-    ends = rw (e, m) ends;
+    ends = inl (record { not_heard = refl; not_begun = refl; ends = rw (e, m) ends });
   };
   passed = rw m g.passed;
-  rings = g.rings;
+  rings = heard_rung (length g.entries) z.ringing c.ringing g.rings;
+  left = refl;
 }
 
 -- the last request asked to close

@@ -1,11 +1,12 @@
 -- Session text on a history that grows.
-use Rattle.std.proofs.Common.{◌≡◌, ℕ, ◌≤◌, List, [], ◌∷◌, ◌++◌, inl, inr, refl, ap, sym, ◌∙◌, subst, length, take, drop, Some, arith, length-append}
+use Rattle.std.proofs.Common.{◌≡◌, ℕ, ◌≤◌, Bool, List, [], ◌∷◌, ◌++◌, ◌⊎◌, inl, inr, refl, ap, sym, ◌∙◌, subst, length, take, drop, Some, true, false, arith, length-append}
 use Rattle.std.specs.List.{AllByRecursion, slice_get}
 use Rattle.std.proofs.lemmas.List.{take-append-le, get_or_append_left}
 use Rattle.std.proofs.lemmas.Option.{slice_get_within, slice_get-get_or, get_or_from_slice_get}
 use Rattle.braid_store.specs.declared.entry.Entry.{Entry}
 use Rattle.braid_store.specs.Books.{of_path}
 use Rattle.braid_text.specs.Sent.{sent}
+use Rattle.braid_stream.specs.Chunked.{chunks}
 use Rattle.braid_store.specs.Cursors.{sent_of}
 use Rattle.braid_graph.specs.Entries.{HoldsAll}
 use Rattle.braid_text.specs.Histories.{graph_of}
@@ -15,15 +16,17 @@ use Rattle.braid_session.specs.declared.serving.Serving.{Serving}
 use Rattle.braid_session.specs.declared.session.SessionEnd.{SessionEnd}
 use Rattle.braid_session.specs.declared.session.SessionEnd.TheVariants.{Closed, Stopped, Spent, Refused, Torn, ReadFault, WriteFault, Worn, Memory}
 use Rattle.braid_session.specs.Answers.{Answers, MayAdd}
-use Rattle.braid_session.specs.Sessions.{Placed, Course, goes_on, watched, Says, none, direct, turn, watches, chunks, chunks_or_beat, further, watch_text, last_chunk, subscription_head, Answered, SessionText, whole, unmarked, watching}
+use Rattle.braid_session.specs.Sessions.{Placed, Course, goes_on, watched, Says, none, direct, turn, watches, chunks_or_beat, further, watch_text, last_chunk, subscription_head, Answered, SessionText, whole, unmarked, watching}
 use Rattle.braid_session.specs.Ends.{Done, GainsThese, Ends}
+use Rattle.braid_session.specs.Watches.{BellUse, IsWatch, EndsWatch, EndsWatching}
+use Rattle.braid_session.specs.Fits.{EndsUnwatched}
 use Rattle.braid_session.specs.Laws.{StaysAsItGrows, TextStays, PlacesStay, FitsLonger}
 
 -- two books have the same fronts up to each of the marks
 abbrev pub SameFronts : List Entry → List Entry → List ℕ → Type 0
 SameFronts book other marks = AllByRecursion (λ (n : ℕ). take n book ≡ take n other) marks
 
-further_same : (book other : List Entry) (path : List ℕ) (from : List (List ℕ)) (passed : ℕ) (marks : List ℕ)
+pub further_same : (book other : List Entry) (path : List ℕ) (from : List (List ℕ)) (passed : ℕ) (marks : List ℕ)
     → SameFronts book other marks → further book path from passed marks ≡ further other path from passed marks
 further_same book other path from passed [] h = refl
 further_same book other path from passed (n ∷ marks) h =
@@ -56,7 +59,7 @@ pub longer_fronts : (book later : List Entry) (marks : List ℕ) → AllByRecurs
 longer_fronts book later [] h = tt
 longer_fronts book later (n ∷ marks) h = (sym (take-append-le n book later h.0), longer_fronts book later marks h.1)
 
-shorter_fronts : (book later : List Entry) (marks : List ℕ) → AllByRecursion (λ n. n ≤ length book) marks → SameFronts (book ++ later) book marks
+pub shorter_fronts : (book later : List Entry) (marks : List ℕ) → AllByRecursion (λ n. n ≤ length book) marks → SameFronts (book ++ later) book marks
 shorter_fronts book later [] h = tt
 shorter_fronts book later (n ∷ marks) h = (take-append-le n book later h.0, shorter_fronts book later marks h.1)
 
@@ -107,7 +110,7 @@ pub places_stay : PlacesStay
 places_stay book later [] h = tt
 places_stay book later (p ∷ es) h = (slice_get_front book later p.0 p.1 h.0, places_stay book later es h.1)
 
-fronts_first : (book other : List Entry) (marks more : List ℕ) → SameFronts book other (marks ++ more) → SameFronts book other marks
+pub fronts_first : (book other : List Entry) (marks more : List ℕ) → SameFronts book other (marks ++ more) → SameFronts book other marks
 fronts_first book other [] more h = tt
 fronts_first book other (n ∷ marks) more h = (h.0, fronts_first book other marks more h.1)
 
@@ -179,18 +182,76 @@ ends_on Memory s by book other look d marks entries intake before after h (o, w,
   ),
 )
 
+-- a subscription is answered on the one as on the other
+is_watch_on : (s : Serving) (by : ℕ) (book other : List Entry) (q : Request) (marks head text : List ℕ) (stopped : Bool) → SameFronts book other marks
+    → IsWatch s by book q marks head text stopped → IsWatch s by other q marks head text stopped
+is_watch_on s by book other q marks head text stopped h w = record {
+  first = w.first;
+  later = w.later;
+  marks_are = w.marks_are;
+  head_is = w.head_is ∙ ap (λ (b : List Entry). subscription_head b q.target) (subst (SameFronts book other) w.marks_are h).0;
+  says = says_on s by book other (q ∷ []) marks [] (head ++ text) (watched stopped) h w.says;
+}
+
+watch_on : (end : SessionEnd) (s : Serving) (by : ℕ) (book other : List Entry) (look : ℕ) (q : Request) (marks : List ℕ) (heard : BellUse) (begun : Bool) (before after : Outflow)
+    → SameFronts book other marks → EndsWatch end s by book look q marks heard begun before after → EndsWatch end s by other look q marks heard begun before after
+watch_on Closed s by book other look q marks heard begun before after h e = e
+watch_on Stopped s by book other look q marks heard begun before after h (head, text, w, o, c, n, b) =
+    (head, text, is_watch_on s by book other q marks head text true h w, o, c, n, b)
+watch_on Spent s by book other look q marks heard begun before after h e = e
+watch_on (Refused status) s by book other look q marks heard begun before after h e = e
+watch_on Torn s by book other look q marks heard begun before after h e = e
+watch_on ReadFault s by book other look q marks heard begun before after h e = e
+watch_on WriteFault s by book other look q marks heard begun before after h (head, text, w, n, e) =
+    (head, text, is_watch_on s by book other q marks head text false h w, n, e)
+watch_on Worn s by book other look q marks heard begun before after h (head, text, w, o, c, l, b) =
+    (head, text, is_watch_on s by book other q marks head text false h w, o, c, l, b)
+watch_on Memory s by book other look q marks heard begun before after h (ms, last, head, text, k, l, w, o, c, b) =
+    (ms, last, head, text, k, l, is_watch_on s by book other q ms head text false (fronts_first book other ms last (subst (SameFronts book other) k h)) w, o, c, b)
+
+-- how a session ends that ends in none, or in one
+abbrev EndsSo : SessionEnd → Serving → ℕ → List Entry → ℕ → Done → List ℕ → List Placed → BellUse → Bool → Intake → Outflow → Outflow → Type 0
+EndsSo end s by book look d marks entries heard begun intake before after =
+    EndsUnwatched end s by book look d marks entries heard begun intake before after ⊎ EndsWatching end s by book look d marks entries heard begun before after
+
+so_fronts : (end : SessionEnd) (s : Serving) (by : ℕ) (book other : List Entry) (look : ℕ) (d : Done) (marks : List ℕ) (entries : List Placed) (heard : BellUse) (begun : Bool) (intake : Intake) (before after : Outflow)
+    → SameFronts book other marks → EndsSo end s by book look d marks entries heard begun intake before after → SameFronts book other d.marks
+so_fronts end s by book other look d marks entries heard begun intake before after h (inl e) = done_fronts end s by book other look d marks entries intake before after h e.ends
+so_fronts end s by book other look d marks entries heard begun intake before after h (inr e) = fronts_first book other d.marks e.taken (subst (SameFronts book other) e.marks_are h)
+
+so_on : (end : SessionEnd) (s : Serving) (by : ℕ) (book other : List Entry) (look : ℕ) (d : Done) (marks : List ℕ) (entries : List Placed) (heard : BellUse) (begun : Bool) (intake : Intake) (before after : Outflow)
+    → SameFronts book other marks → EndsSo end s by book look d marks entries heard begun intake before after → EndsSo end s by other look d marks entries heard begun intake before after
+so_on end s by book other look d marks entries heard begun intake before after h (inl e) = inl (record {
+  not_heard = e.not_heard;
+  not_begun = e.not_begun;
+  ends = ends_on end s by book other look d marks entries intake before after h e.ends;
+})
+so_on end s by book other look d marks entries heard begun intake before after h (inr e) = inr (record {
+  follows = e.follows;
+  request = e.request;
+  rest = e.rest;
+  decided = e.decided;
+  taken = e.taken;
+  marks_are = e.marks_are;
+  entries_are = e.entries_are;
+  middle = e.middle;
+  wrote = e.wrote;
+  ends = watch_on end s by book other look e.request e.taken heard begun e.middle after (fronts_then book other d.marks e.taken (subst (SameFronts book other) e.marks_are h)) e.ends;
+})
+
 pub fits_longer : FitsLonger
-fits_longer s note by book later look entries from to before after h x = record {
+fits_longer s note by book later look entries heard from to before after h x = record {
   r = x.r;
   done = x.done;
+  begun = x.begun;
   taken = x.taken;
   left = x.left;
   faults = x.faults;
   answered = answered_on s by book (book ++ later) x.r x.done.requests x.done.rest x.done.marks x.done.entries x.done.text goes_on
-      (done_fronts note.end s by book (book ++ later) look x.done note.marks.items entries to before after fronts x.ends) x.answered;
+      (so_fronts note.end s by book (book ++ later) look x.done note.marks.items entries heard x.begun to before after fronts x.ends) x.answered;
   count = x.count;
   placed = places_stay book later entries x.placed;
-  ends = ends_on note.end s by book (book ++ later) look x.done note.marks.items entries to before after fronts x.ends;
+  ends = so_on note.end s by book (book ++ later) look x.done note.marks.items entries heard x.begun to before after fronts x.ends;
 }
   where
     fronts : SameFronts book (book ++ later) note.marks.items

@@ -14,3 +14,10 @@ pub mod Fronts
 pub mod Nexts
 pub mod Lasting
 pub mod AtDoors
+pub mod Gathering
+pub mod Looking
+pub mod Watching
+pub mod Pieces
+pub mod PieceData
+pub mod Opening
+pub mod Written

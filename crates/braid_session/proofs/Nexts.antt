@@ -13,9 +13,9 @@ use Rattle.braid_http.specs.Asks.{WireView, Answers as Asking}
 use Rattle.braid_session.specs.declared.serving.Serving.{Serving}
 use Rattle.braid_session.specs.declared.session.SessionEnd.TheVariants.{Closed, Stopped, Spent, Refused, Torn, ReadFault, WriteFault, Worn, Memory}
 use Rattle.braid_session.specs.declared.serve.Next.{Next}
-use Rattle.braid_session.specs.declared.serve.Next.TheVariants.{Answered, Ended}
+use Rattle.braid_session.specs.declared.serve.Next.TheVariants.{Answered, Subscribed, Ended}
 use Rattle.braid_session.specs.Sessions.{refusal_reply}
-use Rattle.braid_session.specs.Steps.{State, Idled, AnswersTo, AnswersRefusal, IfAnswered, Does}
+use Rattle.braid_session.specs.Steps.{State, Idled, EndsIn, AnswersTo, AnswersRefusal, IfAnswered, Does}
 
 -- a state, of its parts
 abbrev pub state_of : WireView → List ℕ → PassView Entry → Intake → Outflow → Ringing → State
@@ -32,6 +32,7 @@ does_request s next q wire asked_wire marks more p r from between to before midd
 
     go : (next : Next) → AnswersTo s next q p r marks more bell rung middle after → Does s next (state_of wire marks p from before bell) (state_of asked_wire more r to after rung)
     go (Answered close) (text, replied, is, w) = (q, text, asks, replied, is, subst (λ (o : Outflow). WritesAll text o after) same w)
+    go (Subscribed end begun) e = (q, asks, subst (λ (o : Outflow). EndsIn s end begun q p r marks more bell rung o after) same e)
     go (Ended Closed) e = absurd e
     go (Ended Stopped) e = absurd e
     go (Ended Spent) e = absurd e
@@ -54,6 +55,7 @@ does_refusal s next f rest wire asked_wire marks p from between to before middle
 
     go : (next : Next) → AnswersRefusal next f middle after → Does s next (state_of wire marks p from before bell) (state_of asked_wire marks p to after bell)
     go (Answered close) e = absurd e
+    go (Subscribed end begun) e = absurd e
     go (Ended Closed) e = absurd e
     go (Ended Stopped) e = absurd e
     go (Ended Spent) e = absurd e
@@ -67,9 +69,11 @@ does_refusal s next f rest wire asked_wire marks p from between to before middle
 -- a wire that gave a request may go on, and what ends a session says nothing of it
 pub live_behind : (next : Next) (over : Option Stop) → over ≡ None → IfAnswered next (over ≡ None)
 live_behind (Answered close) over e = e
+live_behind (Subscribed end begun) over e = tt
 live_behind (Ended end) over e = tt
 
 -- bytes that are no request are not answered so that a session goes on
 pub refusal_ends : (next : Next) (f : Refusal) (before after : Outflow) (over : Option Stop) → AnswersRefusal next f before after → IfAnswered next (over ≡ None)
 refusal_ends (Answered close) f before after over e = absurd e
+refusal_ends (Subscribed end begun) f before after over e = absurd e
 refusal_ends (Ended end) f before after over e = tt

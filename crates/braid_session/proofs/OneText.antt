@@ -25,10 +25,10 @@ use Rattle.braid_session.specs.Laws.{GoAlike, OneText, OneTextUnwatched}
 use Rattle.braid_session.proofs.OneAnswers.{denied_or_wanted, one_denial, one_wish, holdable, legal_take, one_reply, no_reply}
 use Rattle.braid_session.proofs.Replying.{unwatched}
 
-same_from : (f g : List (List ℕ)) → Watch f ≡ Watch g → f ≡ g
+pub same_from : (f g : List (List ℕ)) → Watch f ≡ Watch g → f ≡ g
 same_from f g e = cc
 
-same_stop : (a b : Bool) → watched a ≡ watched b → a ≡ b
+pub same_stop : (a b : Bool) → watched a ≡ watched b → a ≡ b
 same_stop a b e = cc
 
 -- a subscription that begins at what is held is answered by no reply

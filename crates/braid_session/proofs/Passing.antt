@@ -1,13 +1,15 @@
--- A pass that goes through one request after the other.
-use Rattle.std.proofs.Common.{◌≡◌, ℕ, ◌+◌, ◌≤◌, zero, suc, false, List, [], ◌∷◌, ◌++◌, refl, ap, sym, ◌∙◌, subst, length, arith, append-nil, append_assoc, length-append}
+-- A pass and a bell that go through one request after the other.
+use Rattle.std.proofs.Common.{◌≡◌, ℕ, ◌+◌, ◌-◌, ◌<◌, ◌≤◌, Option, None, Some, zero, suc, false, List, [], ◌∷◌, ◌++◌, refl, ap, sym, ◌∙◌, subst, length, arith, append-nil, append_assoc, length-append}
 use Rattle.std.specs.List.{AllByRecursion}
 use Rattle.std.proofs.lemmas.List.{map-append, length-map}
-use Rattle.braid_io.specs.Bells.{Ringing}
-use Rattle.braid_io.specs.Outside.{next_count}
+use Rattle.braid_io.specs.Bells.{Ringing, Waits}
+use Rattle.braid_io.specs.declared.bell.Rang.TheVariants.{Again}
+use Rattle.braid_io.specs.Outside.{HasOne, one_fewer, next_count}
 use Rattle.braid_hall.specs.Passes.{PassView}
 use Rattle.braid_store.specs.declared.entry.Entry.{Entry}
 use Rattle.braid_session.specs.Sessions.{Placed, entries_of}
 use Rattle.braid_session.specs.Ends.{ArePlaced, AreLengths, none, stayed, grew, AreFound, none_found, passed_by, added_to, Passed, risen, Rung}
+use Rattle.braid_session.specs.Watches.{IsHeard, more_by}
 use Rattle.braid_session.proofs.Growing.{places_stay}
 
 pub passed_none : (p : PassView Entry) → p.held ≡ false → Passed p p [] []
@@ -110,3 +112,57 @@ pub rung_both : (es fs : List Placed) (a b c : Ringing) → Rung (length es) a b
 rung_both es fs a b c x y =
     y ∙ ap (λ (z : Ringing). record z { rings = risen (length fs) z.rings }) x
     ∙ ap (λ k. record a { rings = k }) (sym (risen_more (length es) (length fs) a.rings) ∙ ap (λ k. risen k a.rings) (sym (length-append es fs)))
+
+pub more_both : (j k : ℕ) (o : Option ℕ) → more_by j (more_by k o) ≡ more_by (j + k) o
+more_both j k None = refl
+more_both j k (Some n) = ap Some (go n)
+  where
+    go : (n : ℕ) → (n + k) + j ≡ n + (j + k)
+    go n = omega arith
+
+pub more_none : (o : Option ℕ) → o ≡ more_by 0 o
+more_none None = refl
+more_none (Some n) = ap Some (go n)
+  where
+    go : (n : ℕ) → n ≡ n + 0
+    go n = omega arith
+
+pub one_left : (o : Option ℕ) → HasOne o → o ≡ more_by 1 (one_fewer o)
+one_left None h = refl
+one_left (Some n) h = ap Some (go n h)
+  where
+    go : (n : ℕ) → 0 < n → n ≡ (n - 1) + 1
+    go n h = omega (arith, h)
+
+pub heard_none : (a : Ringing) → IsHeard 0 0 a a
+heard_none a = record { answers = more_none a.answers; agains = refl; rings = refl }
+
+pub heard_and : (i j k l : ℕ) (a b c : Ringing) → IsHeard i k a b → IsHeard j l b c → IsHeard (i + j) (k + l) a c
+heard_and i j k l a b c x y = record {
+  answers = x.answers ∙ ap (more_by i) y.answers ∙ more_both i j c.answers;
+  agains = y.agains ∙ ap (risen j) x.agains ∙ sym (risen_more i j a.agains);
+  rings = y.rings ∙ ap (risen l) x.rings ∙ sym (risen_more k l a.rings);
+}
+
+pub heard_both : (i j : ℕ) (es fs : List Placed) (a b c : Ringing) → IsHeard i (length es) a b → IsHeard j (length fs) b c → IsHeard (i + j) (length (es ++ fs)) a c
+heard_both i j es fs a b c x y = subst (λ (k : ℕ). IsHeard (i + j) k a c) (sym (length-append es fs)) (heard_and i j (length es) (length fs) a b c x y)
+
+-- a bell that was only rung, and then answered Agains
+pub heard_then : (i k : ℕ) (a b c : Ringing) → Rung k a b → IsHeard i 0 b c → IsHeard i k a c
+heard_then i k a b c x y = record {
+  answers = sym (ap (λ (z : Ringing). z.answers) x) ∙ y.answers;
+  agains = y.agains ∙ ap (λ (z : Ringing). risen i z.agains) x;
+  rings = y.rings ∙ ap (λ (z : Ringing). z.rings) x;
+}
+
+pub heard_rung : (k : ℕ) (a b : Ringing) → Rung k a b → IsHeard 0 k a b
+heard_rung k a b x = heard_then 0 k a b b x (heard_none b)
+
+-- one Again more
+pub heard_again : (i : ℕ) (a b c : Ringing) → IsHeard i 0 a b → Waits Again b c → IsHeard (i + 1) 0 a c
+heard_again i a b c x w = heard_and i 1 0 0 a b c x
+    (record {
+      answers = one_left b.answers w.0 ∙ ap (more_by 1) (sym (ap (λ (z : Ringing). z.answers) w.1));
+      agains = ap (λ (z : Ringing). z.agains) w.1;
+      rings = ap (λ (z : Ringing). z.rings) w.1;
+    })

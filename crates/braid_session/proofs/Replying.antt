@@ -166,10 +166,11 @@ unwatched s q from h m = go (Watch from) m refl
     go _ (get e g) k = not_watch (is_subscription q) _ from _ (plain_get s q h e g) k
     go _ (put u e g r) k = cc
 
-pub wanted_at_once : (s : Serving) (q : Request) (wish : Wish) → s.subscriptions ≡ false → Means s q (wanted wish) → IsAtOnce wish
-wanted_at_once s q (Read at) h m = tt
-wanted_at_once s q (Watch from) h m = unwatched s q from h m
-wanted_at_once s q (Store update) h m = tt
+-- any other wish is answered by one reply
+pub at_once : (wish : Wish) → ((from : List (List ℕ)) → wish ≡ Watch from → ⊥) → IsAtOnce wish
+at_once (Read at) n = tt
+at_once (Watch from) n = n from refl
+at_once (Store update) n = tt
 
 -- the wish was answered in a turn
 pub replied_turn : (s : Serving) (q : Request) (wish : Wish) (reply : Reply) (text : List ℕ) (p r : PassView Entry) (marks more : List ℕ) (bell rung : Ringing)

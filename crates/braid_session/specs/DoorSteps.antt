@@ -11,15 +11,17 @@ use Rattle.braid_session.specs.declared.session.SessionEnd.TheVariants as ends
 use Rattle.braid_session.specs.declared.session.SessionNote.{SessionNote}
 use Rattle.braid_session.specs.declared.worker.WorkerEnd.{WorkerEnd}
 use Rattle.braid_session.specs.declared.worker.WorkerEnd.TheVariants.{DoorEnd, DoorFault, Worn, Memory}
-use Rattle.braid_session.specs.Ends.{Passed, Rung}
-use Rattle.braid_session.specs.Doors.{Session, FitsVisit, notes_of, marks_of, added_of, visits_of, NoneWorn, Visited, DoorFaultsOnlyAt, EndsWorker}
+use Rattle.braid_session.specs.Ends.{Passed}
+use Rattle.braid_session.specs.Watches.{IsHeard}
+use Rattle.braid_session.specs.Doors.{Session, FitsVisit, notes_of, marks_of, added_of, agains_of, HeardInTurn, visits_of, NoneWorn, Visited, DoorFaultsOnlyAt, EndsWorker}
 
 -- one link came, was served and was put back
 pub record ServesLink (s : Serving) (x : Session) (p q : PassView Entry) (notes more : List SessionNote) (old new : Doorway) (bell rung : Ringing) : Type 0 where
   pub fits : FitsVisit s q.number q.seen q.look x
   pub noted : more ≡ notes ++ x.note ∷ []
   pub passed : Passed p q x.note.marks.items x.entries
-  pub rings : Rung (length x.entries) bell rung
+  pub rings : IsHeard x.heard.agains (length x.entries) bell rung
+  pub left : x.heard.left ≡ rung.answers
   pub door : Visited (x.visit ∷ []) old new
   pub faults : new.faults ≡ old.faults
 
@@ -46,7 +48,8 @@ pub record HasServed (s : Serving) (notes : List SessionNote) (p q : PassView En
   pub noted : notes ≡ notes_of sessions
   pub fit : AllByRecursion (FitsVisit s q.number q.seen q.look) sessions
   pub passed : Passed p q (marks_of sessions) (added_of sessions)
-  pub rings : Rung (length (added_of sessions)) bell rung
+  pub rings : IsHeard (agains_of sessions) (length (added_of sessions)) bell rung
+  pub in_turn : HeardInTurn bell.answers sessions rung.answers
   pub door : Visited (visits_of sessions) before after
   pub faults : after.faults ≡ before.faults
   pub none_worn : NoneWorn sessions
@@ -57,7 +60,8 @@ pub record HasEnded (s : Serving) (end : WorkerEnd) (notes : List SessionNote) (
   pub noted : notes ≡ notes_of sessions
   pub fit : AllByRecursion (FitsVisit s q.number q.seen q.look) sessions
   pub passed : Passed p q (marks_of sessions) (added_of sessions)
-  pub rings : Rung (length (added_of sessions)) bell rung
+  pub rings : IsHeard (agains_of sessions) (length (added_of sessions)) bell rung
+  pub in_turn : HeardInTurn bell.answers sessions rung.answers
   pub door : Visited (visits_of sessions) before after
   pub faults : DoorFaultsOnlyAt end before.faults after.faults
   pub ends : EndsWorker end sessions after

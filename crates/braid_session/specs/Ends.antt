@@ -1,8 +1,8 @@
--- What a session leaves, and how each of its ends comes about.
-use Rattle.std.specs.Prelude.{◌≡◌, ◌≢◌, ℕ, zero, suc, ◌+◌, ◌<◌, ◌≤◌, ◌⊎◌, true, false, List, [], ◌∷◌, ◌++◌, length, take, slice_get, Some}
+-- What a pass gains by a session, what was answered, and how each end comes about of a session that ends in no subscription.
+use Rattle.std.specs.Prelude.{◌≡◌, ℕ, zero, suc, ◌+◌, ◌<◌, ◌≤◌, ◌⊎◌, true, false, List, [], ◌∷◌, ◌++◌, length, take, slice_get, Some}
 use Rattle.std.specs.List.{AllByRecursion}
-use Rattle.std.specs.Io.KnownBytes.{append_known, prepend_known, IsAtEnd}
-use Rattle.braid_io.specs.Outside.{Intake, Outflow, Rose, WritesAll, WritesPart, next_count}
+use Rattle.std.specs.Io.KnownBytes.{IsAtEnd}
+use Rattle.braid_io.specs.Outside.{Intake, Outflow, WritesAll, WritesPart, next_count}
 use Rattle.braid_io.specs.Bells.{Ringing}
 use Rattle.braid_hall.specs.Histories.{IsPrefix}
 use Rattle.braid_hall.specs.Passes.{PassView}
@@ -15,9 +15,8 @@ use Rattle.braid_http.specs.Cuts.{is_over, part, refusal, Stands}
 use Rattle.braid_session.specs.declared.serving.Serving.{Serving}
 use Rattle.braid_session.specs.declared.session.SessionEnd.{SessionEnd}
 use Rattle.braid_session.specs.declared.session.SessionEnd.TheVariants.{Closed, Stopped, Spent, Refused, Torn, ReadFault, WriteFault, Worn, Memory}
-use Rattle.braid_session.specs.declared.session.SessionNote.{SessionNote}
 use Rattle.braid_session.specs.Answers.{MayAdd}
-use Rattle.braid_session.specs.Sessions.{Placed, placed_at, entries_of, goes_on, Says, Answered, NeedsTurn, refusal_reply}
+use Rattle.braid_session.specs.Sessions.{Placed, placed_at, entries_of, goes_on, Says, NeedsTurn, refusal_reply}
 
 -- each entry stands in the history at its place
 abbrev pub ArePlaced : List Entry → List Placed → Type 0
@@ -118,7 +117,7 @@ GainsThese d marks entries = (marks ≡ d.marks) × (entries ≡ d.entries)
 
 -- How each end comes about, where d was answered, by who has the number `by`, on a book; the number `look` is what was last
 -- seen as the next ticket. With the marks and entries that were gained, what is told of the source at the end, and of the
--- sink before and after. Until subscriptions are served, no session is stopped.
+-- sink before and after. Only a session that ends in a subscription is stopped.
 abbrev pub Ends : SessionEnd → Serving → ℕ → List Entry → ℕ → Done → List ℕ → List Placed → Intake → Outflow → Outflow → Type 0
 Ends Closed s by book look d marks entries intake before after =
     GainsThese d marks entries × WritesAll d.text before after
@@ -144,26 +143,3 @@ Ends Memory s by book look d marks entries intake before after =
     MayFollow d × WritesAll d.text before after
     × (GainsThese d marks entries
     ⊎ ((n : ℕ) × (es : List Entry) × IsUnanswered s by book d.rest n es × (marks ≡ d.marks ++ n ∷ []) × (entries ≡ d.entries ++ placed_at n es)))
-
--- a read failed only where the session ended so
-abbrev pub FaultsOnlyAt : SessionEnd → ℕ → ℕ → Type 0
-FaultsOnlyAt end old new = (end ≢ ReadFault → new ≡ old) × (end ≡ ReadFault → (old ≤ new) × Rose old new)
-
--- What a session read, what it answered, and how it ended, on a book that has these entries at their places.
-pub record Fits (s : Serving) (note : SessionNote) (by : ℕ) (book : List Entry) (look : ℕ) (entries : List Placed) (from to : Intake) (before after : Outflow) : Type 0 where
-  pub r : List ℕ
-  pub done : Done
-  pub taken : to.taken ≡ append_known from.taken r
-  pub left : from.left ≡ prepend_known r to.left
-  pub faults : FaultsOnlyAt note.end from.faults to.faults
-  pub answered : Answered s by book r done.requests done.rest done.marks done.entries done.text goes_on
-  pub count : note.requests ≡ length done.requests
-  pub placed : ArePlaced book entries
-  pub ends : Ends note.end s by book look done note.marks.items entries to before after
-
--- The same of a pass that gained these marks and entries, and of a bell that was rung for each entry.
-pub record Serves (s : Serving) (note : SessionNote) (p q : PassView Entry) (from to : Intake) (before after : Outflow) (bell rung : Ringing) : Type 0 where
-  pub entries : List Placed
-  pub fits : Fits s note q.number q.seen q.look entries from to before after
-  pub passed : Passed p q note.marks.items entries
-  pub rings : Rung (length entries) bell rung

@@ -3,8 +3,12 @@ pub mod Orders
 pub mod Wishes
 pub mod Answers
 pub mod Sessions
+pub mod Pieces
 pub mod Ends
+pub mod Watches
+pub mod Fits
 pub mod Judging
+pub mod WatchSteps
 pub mod Steps
 pub mod Doors
 pub mod DoorSteps

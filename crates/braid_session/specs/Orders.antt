@@ -10,9 +10,9 @@ use Rattle.braid_session.specs.declared.serving.Serving.{Serving}
 use Rattle.braid_session.specs.declared.denial.Denial.{Denial}
 use Rattle.braid_session.specs.declared.denial.Denial.TheVariants.{Method, Encoded, Path, OtherMergeType, NotServed, BadList, BadId}
 
--- what is served: PUTs, and no subscriptions yet
+-- what is served: PUTs and subscriptions
 abbrev pub serving_now : Serving
-serving_now = record { puts = true; subscriptions = false }
+serving_now = record { puts = true; subscriptions = true }
 
 -- the values of the lines of a field, which is named in lower case, in the order of the lines
 abbrev pub values_of : Request → List ℕ → List (List ℕ)

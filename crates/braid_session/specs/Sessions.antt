@@ -1,8 +1,8 @@
 -- The text of a session: what it writes for the bytes that it read and the marks of its turns, on a history.
-use Rattle.std.specs.Fmt.{digits}
-use Rattle.std.specs.Prelude.{◌≡◌, ℕ, Bool, true, false, List, [], ◌∷◌, ◌++◌, length, take, drop, flat_map, codes, map}
+use Rattle.std.specs.Prelude.{◌≡◌, ℕ, Bool, true, false, List, [], ◌∷◌, ◌++◌, length, take, drop, map}
 use Rattle.braid_change.specs.Updates.{UpdateView}
-use Rattle.braid_change.specs.Spellings.{canonical}
+use Rattle.braid_fields.specs.Chunks.{beat, last_chunk as the_last_chunk}
+use Rattle.braid_stream.specs.Chunked.{chunks}
 use Rattle.braid_graph.specs.Entries.{HoldsAll}
 use Rattle.braid_graph.specs.Frontiers.{frontier_of}
 use Rattle.braid_text.specs.Histories.{graph_of}
@@ -23,22 +23,14 @@ use Rattle.braid_session.specs.declared.wish.Wish.TheVariants.{Watch}
 use Rattle.braid_session.specs.Wishes.{Means, denied, wanted}
 use Rattle.braid_session.specs.Answers.{Answers, denial_reply}
 
--- a chunk: the size of its data in hexadecimal digits, and the data (RFC 9112, section 7.1)
-abbrev pub chunk : List ℕ → List ℕ
-chunk content = digits 16 false (length content) ++ codes "\r\n" ++ content ++ codes "\r\n"
-
--- each update as one chunk
-abbrev pub chunks : List UpdateView → List ℕ
-chunks us = flat_map (λ (u : UpdateView). chunk (canonical u)) us
-
 -- each update as one chunk, or a chunk of an empty line where there are none
 abbrev pub chunks_or_beat : List UpdateView → List ℕ
-chunks_or_beat [] = codes "2\r\n\r\n\r\n"
+chunks_or_beat [] = beat
 chunks_or_beat (u ∷ us) = chunks (u ∷ us)
 
 -- the last chunk, where the subscription was stopped
 abbrev pub last_chunk : Bool → List ℕ
-last_chunk true = codes "0\r\n\r\n"
+last_chunk true = the_last_chunk
 last_chunk false = []
 
 -- the head of a subscription, with the frontier of the path

@@ -1,5 +1,5 @@
 -- What one request does to the pass, the marks, the bell and the link, as the functions of a session see it.
-use Rattle.std.specs.Prelude.{◌≡◌, ℕ, ◌<◌, ◌≤◌, ◌⊎◌, false, List, [], ◌∷◌, ◌++◌, length}
+use Rattle.std.specs.Prelude.{◌≡◌, ℕ, ◌<◌, ◌≤◌, ◌⊎◌, Bool, false, List, [], ◌∷◌, ◌++◌, length}
 use Rattle.braid_io.specs.Outside.{Intake, Outflow, WritesAll, WritesPart}
 use Rattle.braid_io.specs.Bells.{Ringing, Rings}
 use Rattle.braid_hall.specs.Passes.{PassView}
@@ -16,13 +16,18 @@ use Rattle.braid_session.specs.declared.wish.Wish.{Wish}
 use Rattle.braid_session.specs.declared.wish.Wish.TheVariants.{Read, Watch, Store}
 use Rattle.braid_session.specs.declared.turn.NoReply.{NoReply}
 use Rattle.braid_session.specs.declared.turn.NoReply.TheVariants as no
+use Rattle.braid_session.specs.declared.session.SessionEnd.{SessionEnd}
 use Rattle.braid_session.specs.declared.session.SessionEnd.TheVariants.{Closed, Stopped, Spent, Refused, Torn, ReadFault, WriteFault, Worn, Memory}
+use Rattle.braid_session.specs.declared.serve.Outcome.{Outcome}
+use Rattle.braid_session.specs.declared.serve.Outcome.TheVariants.{Spelled, Opened}
 use Rattle.braid_session.specs.declared.serve.Next.{Next}
-use Rattle.braid_session.specs.declared.serve.Next.TheVariants.{Answered, Ended}
+use Rattle.braid_session.specs.declared.serve.Next.TheVariants.{Answered, Subscribed, Ended}
 use Rattle.braid_session.specs.Wishes.{Means, wanted}
 use Rattle.braid_session.specs.Answers.{Answers, MayAdd}
 use Rattle.braid_session.specs.Sessions.{Placed, placed_at, goes_on, Says, refusal_reply}
 use Rattle.braid_session.specs.Ends.{Passed, Rung}
+use Rattle.braid_session.specs.Watches.{IsHeard, EndsWatch}
+use Rattle.braid_session.specs.WatchSteps.{BegunBy}
 
 -- a wish that one reply answers
 abbrev pub IsAtOnce : Wish → Type 0
@@ -104,14 +109,31 @@ NotReplied s no.Worn q p r marks more bell rung =
 NotReplied s no.Memory q p r marks more bell rung =
     Idled p r marks more bell rung ⊎ ((wish : Wish) × Means s q (wanted wish) × TurnedInVain q.target wish p r marks more bell rung)
 
+-- A request is a subscription that was served, and ended so: with these marks, and what was heard of the bell; whether its head
+-- was written whole.
+pub record EndsIn (s : Serving) (end : SessionEnd) (begun : Bool) (q : Request) (p r : PassView Entry) (marks more : List ℕ) (bell rung : Ringing) (before after : Outflow) : Type 0 where
+  pub new_marks : List ℕ
+  pub again : ℕ
+  pub passed : Passed p r new_marks []
+  pub noted : more ≡ marks ++ new_marks
+  pub rings : IsHeard again 0 bell rung
+  pub ends : EndsWatch end s p.number r.seen r.look q new_marks (record { agains = again; left = rung.answers }) begun before after
+
+-- what a request is answered with: a reply, as it is spelled; or the opening of a subscription that is served
+abbrev pub GivesOutcome : Serving → Outcome → Request → PassView Entry → PassView Entry → List ℕ → List ℕ → Ringing → Ringing → Type 0
+GivesOutcome s (Spelled text) q p r marks more bell rung = RepliedBy s q text p r marks more bell rung
+GivesOutcome s (Opened opening) q p r marks more bell rung = BegunBy s q opening p r marks more × (rung ≡ bell)
+
 -- the same, of what a session holds
 abbrev pub Replied : Serving → Request → List ℕ → State → State → Type 0
 Replied s q text old new = RepliedBy s q text old.pass new.pass old.marks new.marks old.ringing new.ringing
 
--- What a whole request led to: its reply was written whole, or a part of it; or there was none.
+-- What a whole request led to: its reply was written whole, or a part of it; it was a subscription that was served; or there
+-- was no reply.
 abbrev pub AnswersTo : Serving → Next → Request → PassView Entry → PassView Entry → List ℕ → List ℕ → Ringing → Ringing → Outflow → Outflow → Type 0
 AnswersTo s (Answered close) q p r marks more bell rung before after =
     (text : List ℕ) × RepliedBy s q text p r marks more bell rung × (q.close ≡ close) × WritesAll text before after
+AnswersTo s (Subscribed end begun) q p r marks more bell rung before after = EndsIn s end begun q p r marks more bell rung before after
 AnswersTo s (Ended Closed) q p r marks more bell rung before after = ⊥
 AnswersTo s (Ended Stopped) q p r marks more bell rung before after = ⊥
 AnswersTo s (Ended Spent) q p r marks more bell rung before after = ⊥
@@ -126,6 +148,7 @@ AnswersTo s (Ended Memory) q p r marks more bell rung before after = NotReplied 
 -- What bytes that are no request led to: the refusal's reply was written whole, or a part of it; or there was none.
 abbrev pub AnswersRefusal : Next → Refusal → Outflow → Outflow → Type 0
 AnswersRefusal (Answered close) f before after = ⊥
+AnswersRefusal (Subscribed end begun) f before after = ⊥
 AnswersRefusal (Ended Closed) f before after = ⊥
 AnswersRefusal (Ended Stopped) f before after = ⊥
 AnswersRefusal (Ended Spent) f before after = ⊥
@@ -139,6 +162,7 @@ AnswersRefusal (Ended Memory) f before after = after ≡ before
 -- what holds where a request was answered
 abbrev pub IfAnswered : Next → Type 0 → Type 0
 IfAnswered (Answered close) P = P
+IfAnswered (Subscribed end begun) P = Unit {0}
 IfAnswered (Ended end) P = Unit {0}
 
 -- neither pass nor marks nor bell changed, nor what was written
@@ -151,6 +175,9 @@ abbrev pub Does : Serving → Next → State → State → Type 0
 Does s (Answered close) old new =
     (q : Request) × (text : List ℕ) × Asking (asked q) old.wire.held new.wire.held old.intake new.intake
     × Replied s q text old new × (q.close ≡ close) × WritesAll text old.outflow new.outflow
+Does s (Subscribed end begun) old new =
+    (q : Request) × Asking (asked q) old.wire.held new.wire.held old.intake new.intake
+    × EndsIn s end begun q old.pass new.pass old.marks new.marks old.ringing new.ringing old.outflow new.outflow
 Does s (Ended Closed) old new = Asks End old.wire.held new.wire.held old.intake new.intake × Quiet old new
 Does s (Ended Stopped) old new = ⊥
 Does s (Ended Spent) old new = ⊥

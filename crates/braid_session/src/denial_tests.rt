@@ -95,7 +95,7 @@ fn of_two_rows_the_first_denies_a_get(rt: HostRuntime) -> Result<(), Fail> {
             b"NotServed",
         ),
         (
-            b"GET /a HTTP/1.1\r\nSubscribe: true\r\n\r\n",
+            b"GET /a HTTP/1.1\r\nSubscribe: true\r\nVersion: \"x-1\"\r\nParents: b\r\n\r\n",
             b"400 Bad Request",
             b"NotServed",
         ),

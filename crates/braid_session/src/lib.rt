@@ -1,8 +1,10 @@
 //! One connection, and those of a door one after another: each request is answered in order, on a book behind a hall.
 //!
-//! A request is judged by one table of rows in one order; the first row that passes answers it. Those that need the book
-//! take one turn each, and no other does. What is written is the session's text: a relation between the history that the
-//! pass has seen, the bytes that were read, and the marks of the turns. It stays as the history grows.
+//! A request is judged by one table of rows in one order; the first row that passes answers it. Those that need the
+//! book take one turn each, and no other does. A subscription that is served is the last request, and takes a further
+//! turn whenever the bell tells it to look again. What is written is the session's text: a relation between the
+//! history that the pass has seen, the bytes that were read, and the marks of the turns. It stays as the history
+//! grows.
 //!
 //! Versions, parents and subscriptions are after draft-toomim-httpbis-braid-http-04, messages after RFC 9112.
 //!
@@ -21,6 +23,7 @@ mod serve;
 mod serving;
 mod session;
 mod turn;
+mod watch;
 mod wish;
 mod worker;
 
@@ -36,3 +39,5 @@ mod denial_tests;
 mod door_tests;
 #[cfg(test)]
 mod tests;
+#[cfg(test)]
+mod watch_tests;

@@ -4,7 +4,7 @@ ghost use Rattle.std.specs.Prelude.{◌≡◌, ◌++◌, codes, decimal, not, fa
 ghost use Rattle.braid_ids.specs.Identifiers.{spelled_id};
 ghost use Rattle.braid_http.specs.declared.reply.Reply.TheVariants as replies;
 ghost use Rattle.braid_http.specs.Replies.{has_close, reply_text, IsWritable, IsClosable};
-ghost use Rattle.braid_session.specs.Answers.{denial_reply, fault_reply, put_reply};
+ghost use Rattle.braid_session.specs.Answers.{denial_reply, unheld_reply, fault_reply, put_reply};
 ghost use Rattle.braid_session.specs.Sessions.{refusal_reply};
 
 use crate::denial::Denial;
@@ -86,6 +86,13 @@ pub(crate) fn refusal_reply(alloc: Global, refusal: Refusal) -> Result<Reply, Me
         reason: Bytes::of(alloc, refusal.name())?,
         close: true,
     })
+}
+
+/// The reply to a subscription that begins at an identifier which the path does not hold.
+pub(crate) fn unheld_reply(alloc: Global, id: &Id) -> Result<Reply, Memory>
+    ensures ok { IfOk result (λ reply. reply ≡ unheld_reply id.now) }
+{
+    error_of(alloc, 409, b"UnknownParent ", id)
 }
 
 /// The reply to a GET of which nothing is read.

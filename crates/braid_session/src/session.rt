@@ -17,7 +17,7 @@ pub enum SessionEnd {
     WriteFault,
     /// The hall gives no more turns.
     Worn,
-    /// There was no memory.
+    /// There was no memory. Of the request or the turn at hand nothing was written.
     Memory,
 }
 
@@ -26,7 +26,7 @@ pub enum SessionEnd {
 pub struct SessionNote {
     /// The length found at each of its turns.
     pub marks: Vec<u64>,
-    /// How many requests were answered with a reply that was written whole.
+    /// How many requests were answered with a reply that was written whole. A subscription counts once its head is.
     pub requests: u64,
     /// How it ended.
     pub end: SessionEnd,

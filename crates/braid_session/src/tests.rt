@@ -232,7 +232,7 @@ fn the_last_of_ten_thousand_requests_may_ask_to_close(rt: HostRuntime) -> Result
 }
 
 /// The marks of a session of a pass on these bytes.
-fn serve_on<R: Wait>(
+pub fn serve_on<R: Wait>(
     rt: &R,
     alloc: Global,
     hall: &Hall<Book>,

@@ -1,6 +1,6 @@
 use Rattle.std.proofs.Common.{refl, ap, ◌∙◌}
 use Rattle.braid_http.specs.Asks.{WireView}
-use Rattle.braid_session.proofs.Endings.{stand, step, finish, closing, spent, last_close}
+use Rattle.braid_session.proofs.Endings.{stand, step, finish, subscribed, closing, spent, last_close}
 use Rattle.braid_session.proofs.serve.serve_session.Goals as goal
 
 pub serving-init : goal.serving-init
@@ -18,6 +18,19 @@ answer_next-requires-clause-live g c = λ κs outlives. c.serving.invariant.live
 
 pub returns-in-Ended : goal.returns-in-Ended
 returns-in-Ended g c = record { serves = finish _ _ _ _ _ _ _ c.serving.invariant c.serving-test.true c.in-Ended.ensures.does refl refl refl }
+
+pub returns-in-Subscribed : goal.returns-in-Subscribed
+returns-in-Subscribed g c = record {
+  serves = subscribed _ _ _
+      (record {
+        wire = c.answer_next.new.wire;
+        marks = c.answer_next.new.marks.items;
+        pass = c.answer_next.new.pass;
+        intake = g.K.Source.intake c.answer_next.new.link;
+        outflow = g.K.Sink.outflow c.answer_next.new.link;
+        ringing = g.L.Bell.ringing c.answer_next.new.bell;
+      }) _ _ _ _ c.serving.invariant c.serving-test.true c.in-Subscribed.ensures.does refl c.with_head-requests.ensures.count refl;
+}
 
 pub returns : goal.returns
 returns g c = record { serves = spent _ _ _ _ _ c.serving.invariant c.serving-test.false refl refl refl }

@@ -1,15 +1,11 @@
-use Rattle.std.proofs.Common.{refl}
 use Rattle.std.proofs.lemmas.Result.{err_from_is_err_and}
 use Rattle.braid_session.specs.Orders.{serving_now}
 use Rattle.braid_session.proofs.Turns.{no_memory}
-use Rattle.braid_session.proofs.Replying.{wanted_short, wanted_at_once, writable_answer, replied_turn, replied_denial, text_of_denial, not_replied_idle}
-use Rattle.braid_session.proofs.serve.reply_of.Goals as goal
+use Rattle.braid_session.proofs.Replying.{wanted_short, writable_answer, replied_turn, replied_denial, text_of_denial, not_replied_idle}
+use Rattle.braid_session.proofs.serve.outcome_of.Goals as goal
 
 pub take_turn-requires-clause-short : goal.take_turn-requires-clause-short
 take_turn-requires-clause-short g c = λ κs outlives. wanted_short serving_now c.args.request.now c.in-Ok.wish c.in-Ok.ensures.ok
-
-pub take_turn-requires-clause-at_once : goal.take_turn-requires-clause-at_once
-take_turn-requires-clause-at_once g c = λ κs outlives. wanted_at_once serving_now c.args.request.now c.in-Ok.wish refl c.in-Ok.ensures.ok
 
 pub bytes_of-requires : goal.bytes_of-requires
 bytes_of-requires g c =
