@@ -8,26 +8,26 @@ use Rattle.braid_io.specs.declared.status.Status.{Status}
 use Rattle.braid_store.specs.declared.entry.Entry.{Entry}
 use Rattle.braid_session.specs.declared.worker.WorkerNote.{WorkerNote}
 use Rattle.braid_server.specs.declared.serve.Served.{Served}
-use Rattle.braid_server.specs.declared.crew.Crew.{Crew}
-use Rattle.braid_server.specs.Workers.{HaveWorked, LeavesCrew, sessions_of}
+use Rattle.braid_server.specs.declared.workers.Worked.{Worked}
+use Rattle.braid_server.specs.Workers.{HaveWorked, LeavesWork, sessions_of}
 use Rattle.braid_server.specs.Texts.{serving_line, last_lines, Prints}
 use Rattle.braid_server.specs.Runs.{status_of, Finishes, FinishesWith, PrintsLast, BeforeWork, without_workers, ServesPairs, no_work, work}
 
--- what is left of a crew decides what is left of the run
-pub pairs_served : {D L : Type 0} (doorway : D → Doorway) (ringing : L → Ringing) (asked : Asked) (given : List (D × L)) (crew : Crew D L) (served : Served D L) (old middle new : Outflow)
-    → WritesAll (serving_line asked.server) old middle → LeavesCrew doorway ringing given crew.doors.items crew.notes crew.book → Finishes crew served middle new
+-- what workers left decides what is left of the run
+pub pairs_served : {D L : Type 0} (doorway : D → Doorway) (ringing : L → Ringing) (asked : Asked) (given : List (D × L)) (worked : Worked D L) (served : Served D L) (old middle new : Outflow)
+    → WritesAll (serving_line asked.server) old middle → LeavesWork doorway ringing given worked.doors.items worked.notes worked.book → Finishes worked served middle new
     → ServesPairs doorway ringing asked given served old new
-pairs_served doorway ringing asked given crew served old middle new wrote left f = go crew.notes left f.ends
+pairs_served doorway ringing asked given worked served old middle new wrote left f = go worked.notes left f.ends
   where
-    go : (notes : Option (List WorkerNote)) → LeavesCrew doorway ringing given crew.doors.items notes crew.book → FinishesWith notes crew served middle new
+    go : (notes : Option (List WorkerNote)) → LeavesWork doorway ringing given worked.doors.items notes worked.book → FinishesWith notes worked served middle new
         → ServesPairs doorway ringing asked given served old new
     go None l e = no_work e.0 (f.doors ∙ l.0)
         (subst (λ (b : Option (List Entry)). BeforeWork (serving_line asked.server) served.status old new b) (sym (f.book ∙ ap Some l.1))
         (without_workers e.1 (subst (λ (o : Outflow). WritesAll (serving_line asked.server) old o) (sym e.2) wrote)))
-    go (Some notes) l e = work crew.book middle f.book e.1
-        (subst (λ (d : List _). HaveWorked doorway ringing given d served.workers crew.book) (sym f.doors)
-        (subst (λ (n : List WorkerNote). HaveWorked doorway ringing given crew.doors.items n crew.book) (sym e.0) l))
-        wrote (subst (λ (n : List WorkerNote). PrintsLast crew.book n served.status middle new) (sym e.0) e.2)
+    go (Some notes) l e = work worked.book middle f.book e.1
+        (subst (λ (d : List _). HaveWorked doorway ringing given d served.workers worked.book) (sym f.doors)
+        (subst (λ (n : List WorkerNote). HaveWorked doorway ringing given worked.doors.items n worked.book) (sym e.0) l))
+        wrote (subst (λ (n : List WorkerNote). PrintsLast worked.book n served.status middle new) (sym e.0) e.2)
 
 -- a run that ended before its workers began
 pub ended_before : {D L : Type 0} (doorway : D → Doorway) (ringing : L → Ringing) (asked : Asked) (given : List (D × L)) (served : Served D L) (old new : Outflow) (book : Option (List Entry))

@@ -73,6 +73,7 @@ module _ {D L : Type 0} (doorway : D → Doorway) (ringing : L → Ringing) (p l
         (subst (λ (k : ℕ). AreFound k (marks_of d.sessions) (added_of d.sessions) (length w.pass.seen)) (ap (λ (z : PassView Entry). length z.seen) new ∙ ap length none) d.passed.between)
         (prefix_long w.pass.seen last.seen joined.begins);
     rings = d.rings;
+    in_turn = d.in_turn;
     door = d.door;
     faults = d.faults;
     ends = d.ends;
@@ -173,11 +174,11 @@ have_worked doorway ringing hall p root vs ws passes count given history first s
         omega (arith, l, n)
 
 -- the same of lists that are what the workers left
-pub crew_left : {D L : Type 0} (doorway : D → Doorway) (ringing : L → Ringing) (hall : TableId) (p root : PassView Entry) (vs ws : List (Worker D L)) (passes : List (PassView Entry)) (count : ℕ)
+pub work_left : {D L : Type 0} (doorway : D → Doorway) (ringing : L → Ringing) (hall : TableId) (p root : PassView Entry) (vs ws : List (Worker D L)) (passes : List (PassView Entry)) (count : ℕ)
     (given after : List (D × L)) (backs : List (PassView Entry)) (notes : List WorkerNote) (history : List Entry) → p ≡ first_pass hall 0 [] → SplitsAll hall p count root passes
     → passes_of vs ≡ passes → pairs_of vs ≡ given → AllZip (RanDoor doorway ringing) vs ws → after ≡ pairs_of ws → backs ≡ passes_of ws → notes ≡ worker_notes ws
     → IsClosed by_of root backs history → HaveWorked doorway ringing given after notes history
-crew_left doorway ringing hall p root vs ws passes count given after backs notes history first split same pairs ran doors_are passes_are notes_are closed =
+work_left doorway ringing hall p root vs ws passes count given after backs notes history first split same pairs ran doors_are passes_are notes_are closed =
     subst (λ (d : List _). HaveWorked doorway ringing given d notes history) (sym doors_are)
     (subst (λ (n : List WorkerNote). HaveWorked doorway ringing given (pairs_of ws) n history) (sym notes_are)
     (have_worked doorway ringing hall p root vs ws passes count given history first split same pairs ran (subst (λ (b : List (PassView Entry)). IsClosed by_of root b history) passes_are closed)))

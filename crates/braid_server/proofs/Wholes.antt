@@ -8,12 +8,15 @@ use Rattle.braid_io.specs.declared.port.Asked.{Asked}
 use Rattle.braid_io.specs.declared.status.Status.{Status}
 use Rattle.braid_io.specs.declared.status.Status.TheVariants as statuses
 use Rattle.braid_store.specs.declared.entry.Entry.{Entry}
+use Rattle.braid_session.specs.declared.session.SessionEnd.{SessionEnd}
 use Rattle.braid_session.specs.declared.session.SessionEnd.TheVariants as ends
 use Rattle.braid_session.specs.declared.session.SessionNote.{SessionNote}
 use Rattle.braid_session.specs.declared.worker.WorkerEnd.{WorkerEnd}
 use Rattle.braid_session.specs.declared.worker.WorkerEnd.TheVariants as worker_ends
 use Rattle.braid_session.specs.declared.worker.WorkerNote.{WorkerNote}
 use Rattle.braid_session.specs.Ends.{Ends}
+use Rattle.braid_session.specs.Watches.{EndsWatch, EndsWatching}
+use Rattle.braid_session.specs.Fits.{EndsUnwatched}
 use Rattle.braid_session.specs.Orders.{serving_now}
 use Rattle.braid_session.specs.Doors.{Session, FitsVisit, EndsWorker}
 use Rattle.braid_session.proofs.Goings.{writes_both}
@@ -26,8 +29,12 @@ use Rattle.braid_server.proofs.Lists.{all_each}
 
 -- a session that was refused a turn looked at a late ticket
 refused_late : (by : ℕ) (book : List Entry) (look : ℕ) (x : Session) → FitsVisit serving_now by book look x → x.note.end ≡ ends.Worn → 9223372036854775808 ≤ look
-refused_late by book look x f is =
-    let e = subst (λ (z : _). Ends z serving_now by book look f.fits.done x.note.marks.items x.entries x.visit.intake f.before x.visit.outflow) is f.fits.ends in e.4
+refused_late by book look x f is = go f.fits.ends
+  where
+    go : EndsUnwatched x.note.end serving_now by book look f.fits.done x.note.marks.items x.entries x.heard f.fits.begun x.visit.intake f.before x.visit.outflow
+        ⊎ EndsWatching x.note.end serving_now by book look f.fits.done x.note.marks.items x.entries x.heard f.fits.begun f.before x.visit.outflow → 9223372036854775808 ≤ look
+    go (inl w) = let e = subst (λ (z : SessionEnd). Ends z serving_now by book look f.fits.done x.note.marks.items x.entries x.visit.intake f.before x.visit.outflow) is w.ends in e.4
+    go (inr w) = let e = subst (λ (z : SessionEnd). EndsWatch z serving_now by book look w.request w.taken x.heard f.fits.begun w.middle x.visit.outflow) is w.ends in e.5
 
 none_of : (by : ℕ) (book : List Entry) (look : ℕ) (xs : List Session) → ¬ (9223372036854775808 ≤ look) → AllByRecursion (FitsVisit serving_now by book look) xs
     → AllByRecursion (λ (n : SessionNote). n.end ≢ ends.Worn) (map (λ (x : Session). x.note) xs)

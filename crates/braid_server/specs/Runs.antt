@@ -12,7 +12,7 @@ use Rattle.braid_session.specs.declared.worker.WorkerEnd.{WorkerEnd}
 use Rattle.braid_session.specs.declared.worker.WorkerEnd.TheVariants as ends
 use Rattle.braid_session.specs.declared.worker.WorkerNote.{WorkerNote}
 use Rattle.braid_server.specs.declared.serve.Served.{Served}
-use Rattle.braid_server.specs.declared.crew.Crew.{Crew}
+use Rattle.braid_server.specs.declared.workers.Worked.{Worked}
 use Rattle.braid_server.specs.Commands.{IsForm}
 use Rattle.braid_server.specs.Workers.{HaveWorked, sessions_of}
 use Rattle.braid_server.specs.Texts.{usage_line, port_fault_line, serving_line, last_lines, Prints}
@@ -94,13 +94,13 @@ pub data ServeRuns {D L : Type 0} (doorway : D → Doorway) (ringing : L → Rin
       → ServesPairs doorway ringing asked given served old new
       → ServeRuns doorway ringing words served before after old new
 
--- What a run leaves, by what its crew left: the doors as they are, and where no worker ran, no note and status Memory.
-abbrev pub FinishesWith : {D L : Type 0} → Option (List WorkerNote) → Crew D L → Served D L → Outflow → Outflow → Type 0
-FinishesWith None crew served old new = (served.workers ≡ []) × (served.status ≡ Memory) × (new ≡ old)
-FinishesWith (Some notes) crew served old new =
-    (served.workers ≡ notes) × IsLegalBook crew.book × PrintsLast crew.book notes served.status old new
+-- What a run leaves, by what its workers left: the doors as they are, and where no worker ran, no note and status Memory.
+abbrev pub FinishesWith : {D L : Type 0} → Option (List WorkerNote) → Worked D L → Served D L → Outflow → Outflow → Type 0
+FinishesWith None worked served old new = (served.workers ≡ []) × (served.status ≡ Memory) × (new ≡ old)
+FinishesWith (Some notes) worked served old new =
+    (served.workers ≡ notes) × IsLegalBook worked.book × PrintsLast worked.book notes served.status old new
 
-pub record Finishes {D L : Type 0} (crew : Crew D L) (served : Served D L) (old new : Outflow) : Type 0 where
-  pub book : served.book ≡ Some crew.book
-  pub doors : served.doors.items ≡ crew.doors.items
-  pub ends : FinishesWith crew.notes crew served old new
+pub record Finishes {D L : Type 0} (worked : Worked D L) (served : Served D L) (old new : Outflow) : Type 0 where
+  pub book : served.book ≡ Some worked.book
+  pub doors : served.doors.items ≡ worked.doors.items
+  pub ends : FinishesWith worked.notes worked served old new

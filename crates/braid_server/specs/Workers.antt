@@ -10,11 +10,12 @@ use Rattle.braid_store.specs.declared.entry.Entry.{Entry}
 use Rattle.braid_session.specs.declared.session.SessionNote.{SessionNote}
 use Rattle.braid_session.specs.declared.worker.WorkerNote.{WorkerNote}
 use Rattle.braid_session.specs.Sessions.{entries_of}
-use Rattle.braid_session.specs.Ends.{Rung, AreFound}
+use Rattle.braid_session.specs.Ends.{AreFound}
+use Rattle.braid_session.specs.Watches.{IsHeard}
 use Rattle.braid_session.specs.Orders.{serving_now}
-use Rattle.braid_session.specs.Doors.{Session, FitsVisit, notes_of, marks_of, added_of, visits_of, Visited, DoorFaultsOnlyAt, EndsWorker, ServesDoor}
+use Rattle.braid_session.specs.Doors.{Session, FitsVisit, notes_of, marks_of, added_of, agains_of, HeardInTurn, visits_of, Visited, DoorFaultsOnlyAt, EndsWorker, ServesDoor}
 use Rattle.braid_server.specs.declared.worker.Worker.{Worker}
-use Rattle.braid_server.specs.declared.crew.Lists.{Lists}
+use Rattle.braid_server.specs.declared.workers.Lists.{Lists}
 
 -- a worker that may run: its pass comes from the hall and is in no turn
 abbrev pub IsReady : {D L : Type 0} → TableId → Worker D L → Type 0
@@ -54,7 +55,8 @@ sessions_of notes = total (λ (w : WorkerNote). length w.sessions) notes
 
 -- One worker of a run, by its number, on the book that was closed; no look was above `look`: each of its sessions fits
 -- that book; the book's entries of its number are just those of its sessions, in order; its marks never fall; its door
--- put back all links that it gave; its bell was rung for each entry; and its end has its cause.
+-- put back all links that it gave; its bell was rung for each entry, and answered as many Agains as its sessions heard, one
+-- session after the other; and its end has its cause.
 pub record WorksOn (book : List Entry) (look number : ℕ) (note : WorkerNote) (before after : Doorway)
     (bell rung : Ringing) : Type 0 where
   pub sessions : List Session
@@ -63,7 +65,8 @@ pub record WorksOn (book : List Entry) (look number : ℕ) (note : WorkerNote) (
   pub fit : AllByRecursion (FitsVisit serving_now number book look) sessions
   pub own : filter (λ (e : Entry). e.by == number) book ≡ entries_of (added_of sessions)
   pub found : AreFound 0 (marks_of sessions) (added_of sessions) (length book)
-  pub rings : Rung (length (added_of sessions)) bell rung
+  pub rings : IsHeard (agains_of sessions) (length (added_of sessions)) bell rung
+  pub in_turn : HeardInTurn bell.answers sessions rung.answers
   pub door : Visited (visits_of sessions) before after
   pub faults : DoorFaultsOnlyAt note.end before.faults after.faults
   pub ends : EndsWorker note.end sessions after
@@ -88,8 +91,8 @@ pub record HaveWorked {D L : Type 0} (doorway : D → Doorway) (ringing : L → 
   pub each : WorkOn doorway ringing book (turns_of notes) 0 given after notes
   pub numbers : AllByRecursion (λ (e : Entry). (0 < e.by) × (e.by ≤ length notes)) book
 
--- what is left of a crew: its workers ran; or none did, the doors and bells are as they came, and the book has no entry
-abbrev pub LeavesCrew : {D L : Type 0} → (D → Doorway) → (L → Ringing) → List (D × L) → List (D × L)
+-- what is left of workers: its workers ran; or none did, the doors and bells are as they came, and the book has no entry
+abbrev pub LeavesWork : {D L : Type 0} → (D → Doorway) → (L → Ringing) → List (D × L) → List (D × L)
     → Option (List WorkerNote) → List Entry → Type 0
-LeavesCrew doorway ringing given after None book = (after ≡ given) × (book ≡ [])
-LeavesCrew doorway ringing given after (Some notes) book = HaveWorked doorway ringing given after notes book
+LeavesWork doorway ringing given after None book = (after ≡ given) × (book ≡ [])
+LeavesWork doorway ringing given after (Some notes) book = HaveWorked doorway ringing given after notes book

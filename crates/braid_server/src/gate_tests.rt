@@ -1,4 +1,4 @@
-//! Two workers beside one another: each of two connections waits for a reply of the other.
+//! Two workers beside one another: each of two connections, or its bell, waits for a reply of the other.
 
 ghost use Rattle.std.specs.Prelude.{◌≡◌};
 
@@ -6,12 +6,13 @@ use crate::serve_run;
 use crate::tests::words_of;
 use braid_ids::{Bytes, Memory};
 use braid_io::{
-    Came, Door, Link, MemBell, MemSink, Opened, Port, Read, Sink, Source, Status, Wrote,
+    Bell, Came, Door, Link, MemSink, Opened, Port, Rang, Read, Sink, Source, Status, Wrote,
 };
 use std::alloc::Global;
-use std::sync::Arc;
 use std::sync::atomic::{AtomicBool, Ordering};
+use std::sync::{Arc, Wait};
 use std::test::Fail;
+use std::thread::Threads;
 
 /// How often a connection looks whether it may go on.
 const LOOKS: u32 = 10_000_000;
@@ -32,6 +33,14 @@ const FOUND: &[u8] =
 
 const STORED: &[u8] =
     b"HTTP/1.1 200 OK\r\nVersion: \"ann-1\"\r\nContent-Length: 0\r\nConnection: close\r\n\r\n";
+
+const WATCH: &[u8] = b"GET /notes HTTP/1.1\r\nSubscribe: true\r\n\r\n";
+
+const WATCHED: &[u8] =
+    b"HTTP/1.1 209 Subscription\r\nSubscribe: true\r\nCurrent-Version:\r\nMerge-Type: ti-text\r\nContent-Type: text/plain; charset=utf-8\r\nTransfer-Encoding: chunked\r\nConnection: close\r\n\r\n";
+
+const CHUNKS: &[u8] =
+    b"3a\r\nVersion: \"ann-1\"\r\nParents:\r\nContent-Length: 5\r\n\r\nhello\r\n\r\n\r\n0\r\n\r\n";
 
 /// Whether a flag was set, within so many looks.
 fn was_set(flag: &AtomicBool) -> bool {
@@ -153,10 +162,42 @@ impl Door for GateDoor {
     }
 }
 
-/// A door for a connection, and a bell.
-fn pair_of(alloc: Global, plan: Plan) -> (GateDoor, MemBell)
+/// A bell that answers `Again` once, where it waits for a connection that was answered then, and ends.
+#[derive(Drop)]
+struct GateBell {
+    awaits: Option<Arc<AtomicBool, Global>>,
+    agains: u64,
+    rings: u64,
+}
+
+impl Bell for GateBell {
+    ghost use Rattle.std.specs.Prelude.{None};
+
+    ghost ringing = { λ a. record { answers = None; agains = a.agains; rings = a.rings } };
+
+    fn wait(&mut self) -> Rang {
+        match self.awaits.take() {
+            Some(flag) if was_set(&flag) => {
+                self.agains = self.agains.saturating_add(1);
+                Rang::Again
+            }
+            _ => Rang::End,
+        }
+    }
+
+    fn ring(&mut self) {
+        self.rings = self.rings.saturating_add(1);
+    }
+}
+
+/// A door for a connection, and a bell that waits for an answer, or does not.
+fn pair_of(
+    plan: Plan,
+    alloc: Global,
+    awaits: Option<Arc<AtomicBool, Global>>,
+) -> (GateDoor, GateBell)
     ensures sums { (result.0.read_faults ≡ 0) × (result.0.write_faults ≡ 0) }
-    ensures bell { result.1 ≡ record { answers = 0; agains = 0; rings = 0 } }
+    ensures bell { (result.1.agains ≡ 0) × (result.1.rings ≡ 0) }
 {
     let door = GateDoor {
         alloc,
@@ -165,20 +206,26 @@ fn pair_of(alloc: Global, plan: Plan) -> (GateDoor, MemBell)
         read_faults: 0,
         write_faults: 0,
     };
-    (door, MemBell::new(0))
+    let bell = GateBell {
+        awaits,
+        agains: 0,
+        rings: 0,
+    };
+    (door, bell)
 }
 
 /// A port with two doors.
 #[derive(Drop)]
 struct GatePort {
     plans: Option<(Plan, Plan)>,
+    awaits: Option<Arc<AtomicBool, Global>>,
     faults: u64,
 }
 
 impl Port for GatePort {
     type Door = GateDoor;
 
-    type Bell = MemBell;
+    type Bell = GateBell;
 
     ghost use Rattle.std.specs.Prelude.{None};
 
@@ -190,7 +237,7 @@ impl Port for GatePort {
         _server: &Bytes,
         workers: u32,
         _take: u32,
-    ) -> Opened<GateDoor, MemBell> {
+    ) -> Opened<GateDoor, GateBell> {
         let Ok(mut pairs) = Vec::with_capacity(alloc, 2) else {
             return Opened::Memory;
         };
@@ -202,8 +249,8 @@ impl Port for GatePort {
             self.faults = self.faults.saturating_add(1);
             return Opened::Failed;
         };
-        pairs.push_reserved(pair_of(alloc, front));
-        pairs.push_reserved(pair_of(alloc, back));
+        pairs.push_reserved(pair_of(front, alloc, self.awaits.take()));
+        pairs.push_reserved(pair_of(back, alloc, None));
         Opened::Up(pairs)
     }
 }
@@ -227,12 +274,38 @@ fn gates(alloc: Global) -> Result<GatePort, Memory> {
     };
     Ok(GatePort {
         plans: Some((front, back)),
+        awaits: None,
+        faults: 0,
+    })
+}
+
+/// A port whose first connection subscribes, with a bell that waits until the second connection was answered; and whose
+/// second connection puts a text once the head of the first was written.
+fn watch_gates(alloc: Global) -> Result<GatePort, Memory> {
+    let head = Arc::new(alloc, AtomicBool::new(false))?;
+    let put = Arc::new(alloc, AtomicBool::new(false))?;
+    let front = Plan {
+        text: WATCH,
+        gate: WATCH.len(),
+        awaits: Arc::try_clone(&put)?,
+        answered: Arc::try_clone(&head)?,
+    };
+    let awaits = Some(Arc::try_clone(&put)?);
+    let back = Plan {
+        text: PUT,
+        gate: 0,
+        awaits: head,
+        answered: put,
+    };
+    Ok(GatePort {
+        plans: Some((front, back)),
+        awaits,
         faults: 0,
     })
 }
 
 /// Whether a door's connection was answered by these two texts together.
-fn was_answered(pair: Option<&(GateDoor, MemBell)>, first: &[u8], second: &[u8]) -> bool {
+fn was_answered(pair: Option<&(GateDoor, GateBell)>, first: &[u8], second: &[u8]) -> bool {
     let Some((door, _)) = pair else {
         return false;
     };
@@ -242,16 +315,35 @@ fn was_answered(pair: Option<&(GateDoor, MemBell)>, first: &[u8], second: &[u8])
     link.written.strip_prefix(first) == Some(second)
 }
 
-#[test]
-fn workers_run_beside_one_another(rt: HostRuntime) -> Result<(), Fail> {
-    let alloc = rt.alloc();
+/// Whether both connections of a port were answered so, by two workers.
+fn are_answered<R: Threads + Wait + Sync>(
+    rt: &R,
+    alloc: Global,
+    port: GatePort,
+    front: [&[u8]; 2],
+    back: &[u8],
+) -> Result<bool, Memory> {
     let words: [&[u8]; 4] = [b"serve", b"h:1", b"--workers", b"2"];
     let words = words_of(alloc, &words)?;
-    let mut port = gates(alloc)?;
+    let mut port = port;
     let mut out = MemSink::new(alloc, 1_000, Vec::new(alloc))?;
-    let served = serve_run(alloc, &rt, &words, &mut port, &mut out);
-    let got = was_answered(served.doors.first(), ABSENT, FOUND);
-    let put = was_answered(served.doors.last(), STORED, b"");
-    assert!(rt; got && put && served.status == Status::Done);
+    let served = serve_run(alloc, rt, &words, &mut port, &mut out);
+    let [first, second] = front;
+    let got = was_answered(served.doors.first(), first, second);
+    let put = was_answered(served.doors.last(), back, b"");
+    Ok(got && put && served.status == Status::Done)
+}
+
+#[test]
+fn workers_run_beside_one_another(rt: HostRuntime) -> Result<(), Fail> {
+    let port = gates(rt.alloc())?;
+    assert!(rt; are_answered(&rt, rt.alloc(), port, [ABSENT, FOUND], STORED)?);
+    Ok(())
+}
+
+#[test]
+fn a_subscription_is_woken_by_another_connection(rt: HostRuntime) -> Result<(), Fail> {
+    let port = watch_gates(rt.alloc())?;
+    assert!(rt; are_answered(&rt, rt.alloc(), port, [WATCHED, CHUNKS], STORED)?);
     Ok(())
 }

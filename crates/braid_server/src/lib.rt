@@ -12,12 +12,12 @@
 #![tactic(auto)]
 
 mod command;
-mod crew;
 mod form;
 pub mod laws;
 mod print;
 mod serve;
 mod worker;
+mod workers;
 
 pub use serve::{Served, serve_run};
 

@@ -5,9 +5,9 @@ ghost use Rattle.braid_store.specs.Books.{IsLegalBook};
 ghost use Rattle.braid_server.specs.Runs.{HasNone, ServeRuns, ServesPairs, Finishes, PrintsLast};
 
 use crate::command::FormFault;
-use crate::crew::{Crew, run_crew};
 use crate::form::read_form;
 use crate::print::{last_lines, print, serving_line, sessions_of, status_of};
+use crate::workers::{Worked, run_hall};
 use braid_hall::Hall;
 use braid_ids::Word;
 use braid_io::{Asked, Bell, Door, Opened, Port, Sink, Status, write_all};
@@ -77,12 +77,16 @@ fn print_last<O: Sink>(alloc: Global, book: &Book, notes: &ListWorkerNote, out: 
     }
 }
 
-/// What a run leaves, by what its crew left.
-fn finish<D: Door, L: Bell, O: Sink>(alloc: Global, crew: Crew<D, L>, out: &mut O) -> Served<D, L>
-    ensures finishes { Finishes crew result (O.outflow out.old) (O.outflow out.new) }
+/// What a run leaves, by what its workers left.
+fn finish<D: Door, L: Bell, O: Sink>(
+    alloc: Global,
+    worked: Worked<D, L>,
+    out: &mut O,
+) -> Served<D, L>
+    ensures finishes { Finishes worked result (O.outflow out.old) (O.outflow out.new) }
     ensures kept { O.beside_writes out.new ≡ O.beside_writes out.old }
 {
-    let Crew { book, notes, doors } = crew;
+    let Worked { book, notes, doors } = worked;
     let Some(workers) = notes else {
         return not_begun(alloc, Status::Memory, Some(book), doors);
     };
@@ -116,8 +120,8 @@ fn serve_pairs<R: Threads + Wait + Sync, D: Door, L: Bell, O: Sink>(
     let Ok((hall, root)) = Hall::open(alloc, Book::new(alloc)) else {
         return not_begun(alloc, Status::Memory, None, pairs);
     };
-    let crew = run_crew(rt, alloc, hall, root, pairs, asked.workers);
-    finish(alloc, crew, out)
+    let worked = run_hall(rt, alloc, hall, root, pairs, asked.workers);
+    finish(alloc, worked, out)
 }
 
 /// Carries out `serve`: opens a port at the server's address, prints `serving: SERVER`, and answers the connections of

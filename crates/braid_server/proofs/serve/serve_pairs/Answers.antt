@@ -28,7 +28,7 @@ returns-in_default-open-clause-serves g c =
 
 pub returns-clause-serves : goal.returns-clause-serves
 returns-clause-serves g c =
-    pairs_served g.D.Door.doorway g.L.Bell.ringing c.args.asked.now c.args.pairs.items c.run_crew-crew.result c.finish.result _ (g.O.Sink.outflow c.write_all.new.sink) _
+    pairs_served g.D.Door.doorway g.L.Bell.ringing c.args.asked.now c.args.pairs.items c.run_hall-worked.result c.finish.result _ (g.O.Sink.outflow c.write_all.new.sink) _
     (subst (λ (t : List ℕ). WritesAll t (g.O.Sink.outflow c.args.out.now) (g.O.Sink.outflow c.write_all.new.sink)) (c.get-2.ensures.value ∙ c.in-Ok.ensures.ok ∙ ap serving_line c.get.ensures.value)
     c.in-Ok-write_all.ensures.ok)
-    c.run_crew-crew.ensures.crew c.finish.ensures.finishes
+    c.run_hall-worked.ensures.worked c.finish.ensures.finishes

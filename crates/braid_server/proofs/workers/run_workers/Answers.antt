@@ -4,7 +4,7 @@ use Rattle.braid_server.specs.declared.worker.Worker.{Worker}
 use Rattle.braid_server.specs.Workers.{passes_of}
 use Rattle.braid_server.proofs.Lists.{takes_front}
 use Rattle.braid_server.proofs.Together.{ready_of, away_of}
-use Rattle.braid_server.proofs.crew.run_workers.Goals as goal
+use Rattle.braid_server.proofs.workers.run_workers.Goals as goal
 
 pub run_all-requires-clause-ready : goal.run_all-requires-clause-ready
 run_all-requires-clause-ready g c κs within =

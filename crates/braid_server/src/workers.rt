@@ -1,10 +1,10 @@
-//! All workers of a run: hired, run beside one another, and parted from what they worked with.
+//! All workers of a run: they are made, run beside one another, and taken apart again.
 
 ghost use Rattle.std.specs.Prelude.{◌≡◌, ◌≤◌, [], IfOk, OnOk, vec_len, vec_capacity};
 ghost use Rattle.std.specs.List.{AllZip};
 ghost use Rattle.braid_hall.specs.Many.{AreAway, SplitsAll};
 ghost use Rattle.braid_hall.specs.Passes.{first_pass};
-ghost use Rattle.braid_server.specs.Workers.{RanDoor, pairs_of, passes_of, worker_notes, HasRoom, LeavesCrew};
+ghost use Rattle.braid_server.specs.Workers.{RanDoor, pairs_of, passes_of, worker_notes, HasRoom, LeavesWork};
 
 use crate::worker::{Worker, run_all};
 use braid_hall::{Hall, Pass, close_all, split_all};
@@ -59,7 +59,7 @@ fn worker_of<D: Door, L: Bell>(alloc: Global, pair: (D, L), pass: Pass<Book>) ->
 }
 
 /// Gives each pair of a door and a bell to a worker, with the pass of its place, into an empty list that has room.
-fn hire<D: Door, L: Bell>(
+fn make_workers<D: Door, L: Bell>(
     alloc: Global,
     pairs: Vec<(D, L)>,
     passes: Vec<Pass<Book>>,
@@ -86,7 +86,7 @@ fn hire<D: Door, L: Bell>(
 }
 
 /// Takes doors, bells, passes and notes back from workers, in their order, into empty lists that have room.
-fn part<D: Door, L: Bell>(
+fn take_apart<D: Door, L: Bell>(
     workers: Vec<Worker<D, L>>,
     doors: &mut Vec<(D, L)>,
     passes: &mut Vec<Pass<Book>>,
@@ -133,9 +133,9 @@ fn run_workers<D: Door, L: Bell, R: Threads + Wait + Sync>(
     run_all(rt, hall, workers.as_mut_slice());
 }
 
-/// What a crew leaves: the book that was closed; where its workers ran, their notes; and the doors with their bells.
+/// What workers leave: the book that was closed; where its workers ran, their notes; and the doors with their bells.
 #[derive(Drop)]
-pub(crate) struct Crew<D, L> {
+pub(crate) struct Worked<D, L> {
     pub book: Book,
     pub notes: Option<ListWorkerNote>,
     pub doors: Vec<(D, L)>,
@@ -162,22 +162,22 @@ fn prepare<D: Door, L: Bell>(
 /// Splits off a pass for each pair, runs the workers, joins the passes and closes the hall.
 ///
 /// Where there is no memory for passes or workers, no worker runs, and the pairs come back as they are.
-pub(crate) fn run_crew<D: Door, L: Bell, R: Threads + Wait + Sync>(
+pub(crate) fn run_hall<D: Door, L: Bell, R: Threads + Wait + Sync>(
     rt: &R,
     alloc: Global,
     hall: Hall<Book>,
     root: Pass<Book>,
     pairs: Vec<(D, L)>,
     count: u32,
-) -> Crew<D, L>
+) -> Worked<D, L>
     requires fresh { root ≡ first_pass hall 0 [] }
     requires many { vec_len pairs ≡ count }
-    ensures crew { LeavesCrew D.doorway L.ringing pairs.items result.doors.items result.notes result.book }
+    ensures worked { LeavesWork D.doorway L.ringing pairs.items result.doors.items result.notes result.book }
 {
     let mut root = root;
     let mut passes = Vec::new(alloc);
     let Ok(lists) = prepare(&hall, alloc, &mut root, &mut passes, count) else {
-        return Crew {
+        return Worked {
             book: close_all(hall, root, passes),
             notes: None,
             doors: pairs,
@@ -189,10 +189,10 @@ pub(crate) fn run_crew<D: Door, L: Bell, R: Threads + Wait + Sync>(
         passes: mut passes_back,
         mut notes,
     } = lists;
-    hire(alloc, pairs, passes, &mut workers);
+    make_workers(alloc, pairs, passes, &mut workers);
     run_workers(rt, &hall, &root, &mut workers);
-    part(workers, &mut doors, &mut passes_back, &mut notes);
-    Crew {
+    take_apart(workers, &mut doors, &mut passes_back, &mut notes);
+    Worked {
         book: close_all(hall, root, passes_back),
         notes: Some(ListWorkerNote::of(notes)),
         doors,

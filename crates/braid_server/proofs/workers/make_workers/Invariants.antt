@@ -1,6 +1,6 @@
 use Rattle.std.proofs.Common.{◌≡◌, ◌≤◌, ◌++◌, length, vec_capacity}
 use Rattle.braid_server.specs.Workers.{pairs_of, passes_of}
-use Rattle.braid_server.proofs.crew.hire.Given as goal
+use Rattle.braid_server.proofs.workers.make_workers.Given as goal
 
 -- what was given and what is left are what there was
 abbrev pub invariant-loop-n : goal.invariant-loop-n
