@@ -221,8 +221,9 @@ fn check_bodies(alloc: Global, resource: &Resource) -> Result<(), Fail> {
     check(reads_at(alloc, resource, "a-1", "ab")?, "the first text")?;
     check(reads_at(alloc, resource, "a-2", "b")?, "the second text")?;
     check(reads_at(alloc, resource, "", "")?, "no version")?;
+    // Each deleted element is a run of its own, and each inserted text is one.
     check(
-        resource.elements() == 4 && resource.deletions() == 2,
+        resource.elements() == 4 && resource.deletions() == 2 && resource.runs() == 4,
         "the counts",
     )
 }
