@@ -43,13 +43,13 @@ announces n digits h =
     }
 
 -- the chunks of pieces
-record Written (pieces : List (List ℕ)) (b : List ℕ) : Type 0 where
-  chunks : List Chunk
-  each : AllByRecursion IsChunk chunks
-  prints : b ≡ flat_map print_chunk chunks
-  gives : flat_map (λ (piece : List ℕ). piece) pieces ≡ chunk_data chunks
+pub record Written (pieces : List (List ℕ)) (b : List ℕ) : Type 0 where
+  pub chunks : List Chunk
+  pub each : AllByRecursion IsChunk chunks
+  pub prints : b ≡ flat_map print_chunk chunks
+  pub gives : flat_map (λ (piece : List ℕ). piece) pieces ≡ chunk_data chunks
 
-written : (pieces : List (List ℕ)) (b : List ℕ) → AreWrittenChunks pieces b → Written pieces b
+pub written : (pieces : List (List ℕ)) (b : List ℕ) → AreWrittenChunks pieces b → Written pieces b
 written [] b e = record { chunks = []; each = tt; prints = e; gives = refl }
 written (piece ∷ pieces) b w =
     let chunk = w.0 in

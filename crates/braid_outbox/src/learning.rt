@@ -81,8 +81,8 @@ impl Replica {
         }
     }
 
-    /// Whether an update with this identifier is confirmed.
-    fn is_confirmed(&self, id: &Id) -> bool
+    /// Whether an update with this identifier is confirmed, in expected constant time. It takes no memory.
+    pub fn is_confirmed(&self, id: &Id) -> bool
         ensures confirmed { IsTrue result ↔ Holds (graph_of self.now.confirmed) id.now }
     {
         match self.resource.find(id) {

@@ -1,5 +1,0 @@
-use Rattle.braid_client.proofs.LawCounts.{counts_rose}
-use Rattle.braid_client.proofs.laws.counts_rose.Goals as goal
-
-pub returns : goal.returns
-returns c = record { law = counts_rose }

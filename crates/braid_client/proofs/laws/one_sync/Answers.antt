@@ -1,5 +1,0 @@
-use Rattle.braid_client.proofs.LawSync.{one_sync}
-use Rattle.braid_client.proofs.laws.one_sync.Goals as goal
-
-pub returns : goal.returns
-returns c = record { law = one_sync }
