@@ -1,0 +1,13 @@
+pub mod Slices
+pub mod Entries
+pub mod Unwritten
+pub mod Found
+pub mod OneForm
+pub mod Rows
+pub mod Carried
+pub mod Counts
+pub mod HungUp
+pub mod OneTalk
+pub mod OneRun
+pub mod Causes
+pub mod Completed
