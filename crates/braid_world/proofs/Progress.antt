@@ -20,7 +20,7 @@ use Rattle.braid_text.proofs.Logs.{Has, IsPartOf, has_holds, holds_has, has_part
 use Rattle.braid_outbox.specs.declared.world.Reading.{Reading}
 use Rattle.braid_outbox.specs.declared.world.Side.{Side}
 use Rattle.braid_outbox.specs.Replicas.{ReplicaView, all_of, frontier, resume_of, number}
-use Rattle.braid_outbox.specs.Learns.{Learnt, Confirmed, Judged, confirm, has_first, learn_answer, learnt, learn, acked}
+use Rattle.braid_outbox.specs.Learns.{Learnt, Confirmed, Judged, confirm, has_first, learn_answer, learn, acked}
 use Rattle.braid_outbox.specs.Worlds.{reading_after}
 use Rattle.braid_outbox.specs.Laws.{IsPart, IsLearnt}
 use Rattle.braid_outbox.proofs.Names.{IsName, number_is, name_numbered}

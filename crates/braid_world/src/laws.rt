@@ -2,9 +2,11 @@
 //! nothing.
 
 ghost use Rattle.braid_world.specs.Events.{HeadIsPosted, FromIsResumed};
+ghost use Rattle.braid_world.specs.WholeSyncs.{WholeSync};
 ghost use Rattle.braid_world.specs.Progress.{LearningBrings, SentIsLearnt, FrontierIsHeld, FrontIsHad, StaysBeside, PutIsTaken, PutIsConfirmed};
 
 pub use crate::calling::{Called, calls};
+pub use crate::reading_back::{Heard, Last, bytes_are_events};
 
 /// What a replica that syncs with a server may count on. All that the server sends past where the replica resumes is learnt,
 /// or there is no room for it; once all is learnt, the version that the server named is held, and once that is held, the
@@ -28,4 +30,13 @@ pub fn progress()
 pub fn told_is_made()
     ensures head { HeadIsPosted }
     ensures from { FromIsResumed }
+{}
+
+/// A sync whose links are given the whole texts of sessions of one server over one history is done, with nothing unsent and the
+/// version held that the server named, or there was no memory. It then has each update that the server had at the first mark.
+///
+/// The marks suffice and never fall, and each new update stands in the history at its mark. No call fails, and no limit is
+/// met.
+pub fn whole_sync()
+    ensures law { WholeSync }
 {}

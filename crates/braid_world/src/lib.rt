@@ -9,7 +9,15 @@
 //! Not promised: that a message arrives, and that any event happens.
 #![tactic(auto)]
 
+mod body_reading;
 mod book_calls;
 mod calling;
 pub mod laws;
+mod reading_back;
+#[cfg(test)]
+mod reading_tests;
 mod replica_calls;
+#[cfg(test)]
+mod scene;
+#[cfg(test)]
+mod tests;

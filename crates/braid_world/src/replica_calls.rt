@@ -182,7 +182,7 @@ fn kept_replica(alloc: Global, side: &Side) -> Result<Replica, Memory>
 }
 
 /// The same updates once more.
-fn copies(alloc: Global, updates: &[Update]) -> Result<Vec<Update>, Memory>
+pub(crate) fn copies(alloc: Global, updates: &[Update]) -> Result<Vec<Update>, Memory>
     ensures ok { IfOk result (λ copies. copies.items ≡ updates.now) }
 {
     let mut copies = Vec::new(alloc);
