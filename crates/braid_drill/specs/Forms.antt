@@ -1,0 +1,25 @@
+-- The words of a drill, and what they ask for.
+use Rattle.std.specs.Prelude.{◌≡◌, ℕ, ◌<◌, ◌≤◌, ◌^◌, List, [], ◌∷◌, length, codes}
+use Rattle.std.specs.Str.Parse.{IsNumeral, digits_value}
+use Rattle.braid_drill.specs.declared.words.Asked.{Asked}
+
+-- a word is a number: 1 to 20 decimal digits
+pub record IsNumber (word : List ℕ) (n : ℕ) : Type 0 where
+  pub numeral : IsNumeral 10 word
+  pub short : length word ≤ 20
+  pub value : n ≡ digits_value 10 word
+
+-- words are the form of a drill: `drill`, a seed below 2 to the 64th, and a number of rounds, 1 to 20,000
+pub record IsForm (words : List (List ℕ)) (asked : Asked) : Type 0 where
+  pub seed : List ℕ
+  pub rounds : List ℕ
+  pub split : words ≡ codes "drill" ∷ seed ∷ rounds ∷ []
+  pub seed_is : IsNumber seed asked.seed
+  pub seed_fits : asked.seed < 2 ^ 64
+  pub rounds_are : IsNumber rounds asked.rounds
+  pub some : 1 ≤ asked.rounds
+  pub few : asked.rounds ≤ 20_000
+
+-- words are not of that form
+abbrev pub HasNoForm : List (List ℕ) → Type 0
+HasNoForm words = (asked : Asked) → ¬ IsForm words asked

@@ -1,0 +1,65 @@
+//! The lines of a drill.
+
+ghost use Rattle.std.specs.Prelude.{◌≡◌, ◌++◌, IfOk, OnOk, codes, decimal, string_bytes};
+ghost use Rattle.hex.specs.Hex.{encode_lower};
+ghost use Rattle.braid_drill.specs.Lines.{summary_text, Prints};
+
+use braid_ids::{Bytes, Memory};
+use braid_io::{Sink, Status, write_all};
+use std::alloc::Global;
+
+/// What has become of a drill.
+#[derive(Drop)]
+pub struct Summary {
+    /// How many versions the book has.
+    pub versions: u64,
+    /// How many updates of the replicas are unsent.
+    pub unsent: u64,
+    /// How many replicas have the book's digest.
+    pub equal: u32,
+    /// The book's digest.
+    pub digest: [u8; 32],
+}
+
+/// The lines of a drill of so many rounds.
+pub(crate) fn summary_text(alloc: Global, rounds: u32, summary: &Summary) -> Result<Bytes, Memory>
+    ensures ok { IfOk result (λ text. text ≡ summary_text rounds summary.now) }
+{
+    let mut text = Bytes::of(alloc, b"")?;
+    push_count(&mut text, b"rounds: ", rounds as u64)?;
+    push_count(&mut text, b"versions: ", summary.versions)?;
+    push_count(&mut text, b"unsent: ", summary.unsent)?;
+    push_count(&mut text, b"equal: ", summary.equal as u64)?;
+    push_digest(alloc, &mut text, &summary.digest)?;
+    Ok(text)
+}
+
+/// Puts a line with a number at the end.
+fn push_count(text: &mut Bytes, name: &[u8], n: u64) -> Result<(), Memory>
+    ensures ok { OnOk result (text.new ≡ text.old ++ (name.now ++ (decimal n ++ codes "\n"))) }
+{
+    text.push(name)?;
+    text.push_number(n)?;
+    text.push(b"\n")
+}
+
+/// Puts the line with the digest at the end.
+fn push_digest(alloc: Global, text: &mut Bytes, digest: &[u8; 32]) -> Result<(), Memory>
+    ensures ok { OnOk result (text.new ≡ text.old ++ (codes "digest: " ++ (encode_lower digest.now ++ codes "\n"))) }
+{
+    let digits = hex::encode(alloc, *digest)?;
+    text.push(b"digest: ")?;
+    text.push(digits.as_bytes())?;
+    text.push(b"\n")
+}
+
+/// Writes a text whose status this is. Answers that status, or Outside where a write failed.
+pub(crate) fn print<O: Sink>(out: &mut O, text: &[u8], status: Status) -> Status
+    ensures prints { Prints text.now status result (O.outflow out.old) (O.outflow out.new) }
+    ensures kept { O.beside_writes out.new ≡ O.beside_writes out.old }
+{
+    match write_all(text, out) {
+        Ok(()) => status,
+        Err(_) => Status::Outside,
+    }
+}
