@@ -2,7 +2,7 @@
 
 use crate::commands::exit_code;
 use braid_ids::{Bytes, Word};
-use braid_io::{Dialed, Dialer, MemSink, MemSource, Read, Source, write_all};
+use braid_io::{Dialed, Dialer, MemKeeper, MemSink, MemSource, Read, Source, write_all};
 use braid_net::{TcpDialer, TcpLink, TcpPort};
 use std::alloc::Global;
 use std::marker::{Send, Sync};
@@ -41,8 +41,18 @@ where
     let words = words_at(alloc, server)?;
     let mut source = MemSource::new(Bytes::of(alloc, b"").ok()?, 1, Vec::new(alloc));
     let mut out = MemSink::new(alloc, 1_000, Vec::new(alloc)).ok()?;
-    let mut port = TcpPort::new(*rt);
-    let code = exit_code(alloc, rt, Ok(words), &mut source, &mut out, &mut port);
+    let mut keeper = MemKeeper::new(Vec::new(alloc), Vec::new(alloc));
+    let (mut dialer, mut port) = (TcpDialer::new(*rt), TcpPort::new(*rt));
+    let code = exit_code(
+        alloc,
+        rt,
+        Ok(words),
+        &mut source,
+        &mut out,
+        &mut keeper,
+        &mut dialer,
+        &mut port,
+    );
     Some((code, Bytes::of(alloc, out.written()).ok()?))
 }
 
