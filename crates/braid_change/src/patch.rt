@@ -66,10 +66,12 @@ impl Model for ListPatch {
 }
 
 impl ListPatch {
-    /// The list of these patches. It takes no memory.
+    /// The list of these patches. It takes no memory, and gives back what the list has room for beside them.
     pub fn of(items: Vec<Patch>) -> ListPatch
         ensures value { result ≡ items.items }
     {
+        let mut items = items;
+        items.shrink_to_fit();
         ListPatch { items }
     }
 

@@ -7,6 +7,9 @@ use braid_ids::{Bytes, Memory};
 use std::alloc::Global;
 use std::marker::Model;
 
+/// Below so many characters the number of their bytes fits 32 bits.
+const FEW: usize = 536_870_912;
+
 /// A text: a list of Unicode scalar values.
 #[derive(Debug, Drop)]
 pub struct Text {
@@ -104,11 +107,11 @@ impl Text {
         ensures len { result ≡ min (length (encode_utf8_all self.now)) (2 ^ 64 - 1) }
         ensures valid { all_scalars self.now ≡ true }
     {
-        let mut len: u64 = 0;
-        for c in self.chars() {
-            len = len.saturating_add(c.len_utf8() as u64);
+        let chars = self.chars();
+        if chars.len() < FEW {
+            return short_len(chars) as u64;
         }
-        len
+        long_len(chars)
     }
 
     /// Puts its UTF-8 at the end of `out`.
@@ -125,6 +128,31 @@ impl Text {
         }
         Ok(())
     }
+}
+
+/// The number of bytes of the UTF-8 of so few characters that a sum of 32 bits holds it.
+///
+/// Nothing is asked at each character but where it stands, so several are taken at once.
+fn short_len(chars: &[char]) -> u32
+    requires few { length chars.now < 2 ^ 29 }
+    ensures len { result ≡ length (encode_utf8_all chars.now) }
+{
+    let mut len: u32 = 0;
+    for c in chars {
+        len += c.len_utf8() as u32;
+    }
+    len
+}
+
+/// The number of bytes of the UTF-8 of any characters, or the greatest `u64` where they are more.
+fn long_len(chars: &[char]) -> u64
+    ensures len { result ≡ min (length (encode_utf8_all chars.now)) (2 ^ 64 - 1) }
+{
+    let mut len: u64 = 0;
+    for c in chars {
+        len = len.saturating_add(c.len_utf8() as u64);
+    }
+    len
 }
 
 /// The text of ASCII bytes.
