@@ -10,6 +10,7 @@ use crate::link::Link;
 use crate::runs::Runs;
 use crate::skipping::pass_blocks;
 use crate::version::SpanVersion;
+use crate::visible::room_for;
 use crate::whole::{count_all, nth_of_all, push_chars, push_places};
 use braid_ids::{Id, Marks, Memory};
 use braid_tree::{At, Document};
@@ -266,8 +267,8 @@ impl Document for SpanDocument {
             from,
         );
         let blocks = &self.runs.blocks()[passed.blocks..];
-        let mut places = Vec::new(alloc);
         let count = to.saturating_sub(from);
+        let mut places = room_for(alloc, count, self.elements())?;
         push_places(&mut places, marks, &self.links, blocks, passed.left, count)?;
         Ok(places)
     }

@@ -1,6 +1,6 @@
 //! What marked versions see of runs: whole runs at once.
 
-ghost use Rattle.std.specs.Prelude.{◌≡◌, ◌+◌, ◌-◌, ◌<◌, ◌≤◌, ◌++◌, ◌^◌, Some, All, IfOk, IfErr, OnOk, length, take, drop, slice_get};
+ghost use Rattle.std.specs.Prelude.{◌≡◌, ◌+◌, ◌-◌, ◌<◌, ◌≤◌, ◌++◌, ◌^◌, [], Some, All, IfOk, IfErr, OnOk, length, take, drop, slice_get};
 ghost use Rattle.braid_spans.specs.Kept.{chains_of, size_in, reach, AreLinked, IsFitting};
 ghost use Rattle.braid_spans.specs.SeenRuns.{is_seen_run, places_from, seen_count, seen_places, seen_chars};
 ghost use Rattle.braid_spans.specs.declared.run.Run.{Run};
@@ -9,6 +9,7 @@ use crate::link::{Link, is_deleted};
 use crate::run::Run;
 use braid_ids::{Marks, Memory};
 use braid_tree::At;
+use std::alloc::Global;
 
 /// Whether marked versions see the elements of a run.
 pub fn is_visible(marks: &Marks, links: &[Link], run: &Run) -> bool
@@ -63,6 +64,14 @@ pub struct Piece {
     pub take: u32,
 }
 
+/// No places so far, with room for so many of the elements that are there.
+pub fn room_for(alloc: Global, count: u32, elements: u32) -> Result<Vec<At>, Memory>
+    ensures ok { IfOk result (λ places. places.items ≡ []) }
+{
+    let places = Vec::with_capacity(alloc, count.min(elements) as usize)?;
+    Ok(places)
+}
+
 /// Puts the places of a run's piece at the end of a list, and leaves what is to be passed and taken behind the run.
 pub fn push_piece(places: &mut Vec<At>, run: &Run, piece: &mut Piece) -> Result<(), Memory>
     requires ordinals { run.now.first.ordinal + run.now.len < 2 ^ 32 }
@@ -76,8 +85,9 @@ pub fn push_piece(places: &mut Vec<At>, run: &Run, piece: &mut Piece) -> Result<
     piece.skip -= from;
     let to = from + piece.take.min(run.len - from);
     piece.take -= to - from;
+    places.reserve((to - from) as usize)?;
     for k in from..to {
-        places.push(run.place(k))?;
+        places.push_reserved(run.place(k));
     }
     Ok(())
 }

@@ -54,7 +54,7 @@ returns c =
     record {
       ok = subst (λ (v : SpanView). c.push_places.new.places.items ≡ take (c.args.to - c.args.from) (drop c.args.from (map place_in (seen_rows marks (deletions_of (spelled v.runs)) (rows_of (spelled v.runs)))))) c.self.view_is
           (c.in_ok-push_places.ensures.ok
-          ∙ ap (λ t. t ++ take count (drop left (seen_places marks (chains_of links) (flat (take (length x - k) (drop k x)))))) c.new-places.ensures.items
+          ∙ ap (λ t. t ++ take count (drop left (seen_places marks (chains_of links) (flat (take (length x - k) (drop k x)))))) c.in_ok-places.ensures.ok
           ∙ ap (λ t. take count (drop left (seen_places marks (chains_of links) t))) same
           ∙ ap (take count) (drop_behind marks (chains_of links) bs k c.args.from left passed)
           ∙ ap (λ (m : ℕ). take m (drop c.args.from (seen_places marks (chains_of links) (flat bs)))) c.saturating_sub-count.ensures
