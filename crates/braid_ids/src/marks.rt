@@ -2,17 +2,19 @@ ghost use Rattle.std.specs.Prelude.{◌≡◌, ◌≤◌, ◌<◌, ◌↔◌, �
 ghost use Rattle.braid_ids.specs.MarkSets.{IsMarked, pieces_of};
 
 use crate::memory::Memory;
-use crate::piece::{Piece, add_among, add_last, begins_before_last, is_all, is_in};
+use crate::piece::{Piece, add_among, add_last, begins_before_last, is_all, is_in, rate_of};
 use std::alloc::Global;
 use std::marker::Model;
 
 /// A set of numbers below a size that never changes.
 ///
-/// The set is kept as its ranges, so it takes memory by the number of ranges, whatever the size.
+/// The set is kept as its ranges, so it takes memory by the number of ranges, whatever the size. `rate` is about how many
+/// ranges there are for each number: a look for a number begins by it, and nothing rests on it.
 #[derive(Drop)]
 pub struct Marks {
     pieces: Vec<Piece>,
     size: u32,
+    rate: u64,
     alloc: Global,
 }
 
@@ -37,6 +39,7 @@ impl Marks {
         Ok(Marks {
             pieces: Vec::new(alloc),
             size,
+            rate: 0,
             alloc,
         })
     }
@@ -55,9 +58,11 @@ impl Marks {
         let piece = Piece { from, to };
         if begins_before_last(&self.pieces, piece) {
             self.pieces = add_among(self.alloc, &self.pieces, piece)?;
+            self.rate = rate_of(&self.pieces, self.rate);
             return Ok(());
         }
         add_last(&mut self.pieces, piece)?;
+        self.rate = rate_of(&self.pieces, self.rate);
         Ok(())
     }
 
@@ -65,7 +70,7 @@ impl Marks {
     pub fn has(&self, n: u32) -> bool
         ensures has { IsTrue result ↔ IsMarked self.now n }
     {
-        is_in(&self.pieces, n)
+        is_in(&self.pieces, n, self.rate)
     }
 
     /// Whether each number below the size is in the set. It takes no memory and constant time.

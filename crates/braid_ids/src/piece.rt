@@ -82,11 +82,11 @@ pub fn add_among(alloc: Global, pieces: &[Piece], piece: Piece) -> Result<Vec<Pi
 
 /// Whether a number is in one of rising ranges: in the first one or before it, or near where it is looked for first, or
 /// else by bisection.
-pub fn is_in(pieces: &[Piece], n: u32) -> bool
+pub fn is_in(pieces: &[Piece], n: u32, rate: u64) -> bool
     requires rise { ArePieces 0 pieces.now }
     ensures is_in { IsTrue result ↔ IsIn pieces.now n }
 {
-    let at = ended_by(pieces, n);
+    let at = ended_by(pieces, n, rate);
     match pieces.get(at) {
         Some(p) => p.from <= n,
         None => false,
@@ -94,7 +94,7 @@ pub fn is_in(pieces: &[Piece], n: u32) -> bool
 }
 
 /// How many of rising ranges end at a number or below it.
-fn ended_by(pieces: &[Piece], n: u32) -> usize
+fn ended_by(pieces: &[Piece], n: u32, rate: u64) -> usize
     requires rise { ArePieces 0 pieces.now }
     ensures before { (k : ℕ) (d : Piece) → k < result → k < length pieces.now → (slice_index_or pieces.now k d).to ≤ n }
     ensures behind { (d : Piece) → result < length pieces.now → n < (slice_index_or pieces.now result d).to }
@@ -102,7 +102,7 @@ fn ended_by(pieces: &[Piece], n: u32) -> usize
     if is_end(pieces, 0, n) {
         return 0;
     }
-    let near = guess(pieces, n);
+    let near = guess(n, rate);
     if is_end(pieces, near, n) {
         return near;
     }
@@ -114,12 +114,19 @@ fn ended_by(pieces: &[Piece], n: u32) -> usize
 }
 
 /// Where to look for a number first: as far on among the ranges as it is among all numbers. Nothing rests on it.
-fn guess(pieces: &[Piece], n: u32) -> usize {
+fn guess(n: u32, rate: u64) -> usize {
+    ((n as u64).wrapping_mul(rate) >> 32) as usize
+}
+
+/// How many ranges there are for each number, times 2^32: measured anew where their count is a power of two, and else as it
+/// was, so that no look and hardly any range divides.
+pub fn rate_of(pieces: &[Piece], rate: u64) -> u64 {
+    let count = pieces.len() as u64;
+    if count & count.wrapping_sub(1) != 0 {
+        return rate;
+    }
     match pieces.last() {
-        Some(last) => {
-            let far = (n as u64).wrapping_mul(pieces.len() as u64);
-            (far / (last.to as u64).max(1)) as usize
-        }
+        Some(last) => count.wrapping_mul(4_294_967_296) / (last.to as u64).max(1),
         None => 0,
     }
 }
