@@ -21,7 +21,7 @@ use Rattle.braid_session.specs.Fits.{Serves, FaultsOnlyAt, heads_of}
 use Rattle.braid_session.specs.Steps.{State, Idled, Does}
 use Rattle.braid_session.proofs.Passing.{passed_none, passed_both, rung_both, heard_rung, heard_then}
 use Rattle.braid_session.proofs.Turns.{length_placed}
-use Rattle.braid_session.proofs.Goings.{Going, going_none, going_more, answered_then, over_of, over_false, over_true, writes_both, writes_none}
+use Rattle.braid_session.proofs.Goings.{Going, going_none, going_more, answered_then, in_turn_then, over_of, over_false, over_true, writes_both, writes_none}
 
 -- n requests were answered, and another may follow unless there are 10,000
 pub record Standing (s : Serving) (z : State) (n : ℕ) (c : State) : Type 0 where
@@ -89,6 +89,7 @@ end_at s z c new n end note t got all ms es entries whole passed rings marks pla
     ends = inl (record { not_heard = refl; not_begun = refl; ends = rw (e, m) ends });
   };
   passed = rw (m, marks, placed) both;
+  in_turn = in_turn_then s z c n t.closed t.text t.going new.pass ms es passed;
   rings = heard_rung (length entries) z.ringing new.ringing (rw placed (rung_both t.going.entries es z.ringing c.ringing new.ringing t.going.rings rings));
   left = refl;
 }
@@ -253,6 +254,7 @@ subscribed s z c new n end begun note t l (q, a, w) e k m = record {
     });
   };
   passed = subst (λ (ms : List ℕ). Passed z.pass new.pass ms t.going.entries) (sym (m ∙ w.noted)) both;
+  in_turn = in_turn_then s z c n t.closed t.text t.going new.pass w.new_marks [] w.passed;
   rings = heard_then w.again (length t.going.entries) z.ringing c.ringing new.ringing t.going.rings w.rings;
   left = refl;
 }
@@ -288,6 +290,7 @@ end_here s z c n closed text end note g never e k m ends = record {
     ends = inl (record { not_heard = refl; not_begun = refl; ends = rw (e, m) ends });
   };
   passed = rw m g.passed;
+  in_turn = g.says;
   rings = heard_rung (length g.entries) z.ringing c.ringing g.rings;
   left = refl;
 }

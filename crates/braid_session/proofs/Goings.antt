@@ -16,9 +16,9 @@ use Rattle.braid_session.specs.declared.serving.Serving.{Serving}
 use Rattle.braid_session.specs.Sessions.{Placed, goes_on, Says, none, Answered}
 use Rattle.braid_session.specs.Ends.{Passed, Rung}
 use Rattle.braid_session.specs.Steps.{State, Replied}
-use Rattle.braid_session.proofs.Growing.{stays}
+use Rattle.braid_session.specs.InTurn.{SaysInTurn}
+use Rattle.braid_session.proofs.InTurn.{to_higher, stays_in_turn, says_both_in_turn, one_in_turn}
 use Rattle.braid_session.proofs.Passing.{passed_none, passed_both, within, rung_both}
-use Rattle.braid_session.proofs.Following.{says_both}
 
 -- n requests were read and answered, the last of which asked to close or not; whatever requests follow them in the bytes
 -- follow them in the cut
@@ -29,7 +29,7 @@ pub record Going (s : Serving) (z : State) (n : ℕ) (closed : Bool) (c : State)
   pub moves : Moves r z.intake c.intake
   pub cut : (more : List ℕ) (rs : List Request) (rest : List ℕ) → Cuts n closed (c.wire.held ++ more) rs rest → Cuts 0 false (r ++ more) (requests ++ rs) rest
   pub over : (rs : List Request) → is_over 0 false (requests ++ rs) ≡ is_over n closed rs
-  pub says : Says s c.pass.number c.pass.seen requests c.marks entries text goes_on
+  pub says : SaysInTurn s c.pass.number c.pass.seen requests c.marks entries text goes_on (length z.pass.seen) (length c.pass.seen)
   pub passed : Passed z.pass c.pass c.marks entries
   pub rings : Rung (length entries) z.ringing c.ringing
   pub number : n ≡ length requests
@@ -42,7 +42,7 @@ going_none s c h m idle = record {
   moves = moves_none c.intake;
   cut = λ more rs rest k. rw h at k;
   over = λ rs. refl;
-  says = rw m none;
+  says = rw m (record { says = none; in_turn = omega arith });
   passed = rw m (passed_none c.pass idle);
   rings = refl;
   number = refl;
@@ -50,10 +50,10 @@ going_none s c h m idle = record {
 
 -- what was said stays, on what another pass added too
 says_later : (s : Serving) (z c : State) (n : ℕ) (closed : Bool) (text : List ℕ) (g : Going s z n closed c text) (p : PassView Entry) (ms : List ℕ) (es : List Placed)
-    → Passed c.pass p ms es → Says s p.number p.seen g.requests c.marks g.entries text goes_on
+    → Passed c.pass p ms es → SaysInTurn s p.number p.seen g.requests c.marks g.entries text goes_on (length z.pass.seen) (length c.pass.seen)
 says_later s z c n closed text g p ms es q =
     rw (q.number, q.begins.1)
-    (stays s c.pass.number c.pass.seen q.begins.0 g.requests c.marks g.entries text goes_on (within (length z.pass.seen) (length c.pass.seen) c.marks g.entries g.passed.between) g.says)
+    (stays_in_turn s c.pass.number c.pass.seen q.begins.0 g.requests c.marks g.entries text (length z.pass.seen) (length c.pass.seen) (within (length z.pass.seen) (length c.pass.seen) c.marks g.entries g.passed.between) g.says)
 
 -- one request more
 pub going_more : (s : Serving) (z c new : State) (n : ℕ) (closed : Bool) (q : Request) (text reply : List ℕ) → Going s z n closed c text → n < 10_000 → closed ≡ false
@@ -70,9 +70,9 @@ going_more s z c new n closed q text reply g l k a w = record {
       rw (append_assoc g.r a.took.got more, append_assoc g.requests (q ∷ []) rs) d;
   over = λ rs. ap (is_over 0 false) (append_assoc g.requests (q ∷ []) rs) ∙ g.over (q ∷ rs);
   says = rw w.noted
-      (says_both s new.pass.number new.pass.seen g.requests (q ∷ []) c.marks w.new_marks g.entries w.entries text reply goes_on goes_on refl
+      (says_both_in_turn s new.pass.number new.pass.seen g.requests (q ∷ []) c.marks w.new_marks g.entries w.entries text reply goes_on (length z.pass.seen) (length c.pass.seen) (length new.pass.seen)
       (says_later s z c n closed text g new.pass w.new_marks w.entries w.passed)
-      (rw w.passed.number w.says));
+      (one_in_turn s new.pass.number new.pass.seen q w.new_marks w.entries reply (length c.pass.seen) (length new.pass.seen) (rw w.passed.number w.says) w.passed.between w.passed.placed));
   passed = rw w.noted (passed_both z.pass c.pass new.pass c.marks w.new_marks g.entries w.entries g.passed w.passed);
   rings = rung_both g.entries w.entries z.ringing c.ringing new.ringing g.rings w.rings;
   number = let m = g.number in let p = length-append g.requests (q ∷ []) in omega (arith, m, p);
@@ -83,8 +83,15 @@ pub answered_then : (s : Serving) (z c : State) (n : ℕ) (closed : Bool) (text 
     → Passed c.pass p ms es → all ≡ c.wire.held ++ got → Answered s p.number p.seen (g.r ++ got) g.requests all c.marks g.entries text goes_on
 answered_then s z c n closed text g p ms es got all q e = record {
   cut = rw (append-nil g.requests) at (g.cut got [] all (sym e));
-  says = says_later s z c n closed text g p ms es q;
+  says = (says_later s z c n closed text g p ms es q).says;
 }
+
+-- and its marks stand so, up to what the pass then has seen
+pub in_turn_then : (s : Serving) (z c : State) (n : ℕ) (closed : Bool) (text : List ℕ) (g : Going s z n closed c text) (p : PassView Entry) (ms : List ℕ) (es : List Placed)
+    → Passed c.pass p ms es → SaysInTurn s p.number p.seen g.requests c.marks g.entries text goes_on (length z.pass.seen) (length p.seen)
+in_turn_then s z c n closed text g p ms es q =
+    to_higher s p.number p.seen g.requests c.marks g.entries text goes_on (length z.pass.seen) (length c.pass.seen) (length p.seen)
+    (let l = ap length q.begins.1 in let k = length-append c.pass.seen q.begins.0 in omega (arith, l, k)) (says_later s z c n closed text g p ms es q)
 
 pub over_of : (s : Serving) (z c : State) (n : ℕ) (closed : Bool) (text : List ℕ) (g : Going s z n closed c text) → is_over 0 false g.requests ≡ closed || nat_le 10_000 n
 over_of s z c n closed text g = ap (is_over 0 false) (sym (append-nil g.requests)) ∙ g.over []

@@ -100,7 +100,7 @@ pub text_stays : TextStays
 text_stays s by book later r marks text course h =
     (text_on s by book (book ++ later) r marks text course (longer_fronts book later marks h), text_on s by (book ++ later) book r marks text course (shorter_fronts book later marks h))
 
-slice_get_front : (book later : List Entry) (i : ℕ) (x : Entry) → slice_get book i ≡ Some x → slice_get (book ++ later) i ≡ Some x
+pub slice_get_front : (book later : List Entry) (i : ℕ) (x : Entry) → slice_get book i ≡ Some x → slice_get (book ++ later) i ≡ Some x
 slice_get_front book later i x h =
     let l = slice_get_within book i x h in
     let n = length-append book later in

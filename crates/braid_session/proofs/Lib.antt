@@ -1,6 +1,7 @@
 pub mod Judging
 pub mod Answering
 pub mod Growing
+pub mod InTurn
 pub mod Wholes
 pub mod Passing
 pub mod Following

@@ -10,6 +10,7 @@ use Rattle.braid_session.specs.declared.session.SessionEnd.{SessionEnd}
 use Rattle.braid_session.specs.declared.session.SessionEnd.TheVariants.{ReadFault}
 use Rattle.braid_session.specs.declared.session.SessionNote.{SessionNote}
 use Rattle.braid_session.specs.Sessions.{Placed, goes_on, Answered}
+use Rattle.braid_session.specs.InTurn.{SaysInTurn}
 use Rattle.braid_session.specs.Ends.{ArePlaced, Passed, Done, Ends}
 use Rattle.braid_session.specs.Watches.{BellUse, IsHeard, EndsWatching}
 
@@ -43,11 +44,14 @@ pub record Fits (s : Serving) (note : SessionNote) (by : ℕ) (book : List Entry
   pub ends : EndsUnwatched note.end s by book look done note.marks.items entries heard begun to before after
       ⊎ EndsWatching note.end s by book look done note.marks.items entries heard begun before after
 
--- The same of a pass that gained these marks and entries, and of a bell that was rung for each entry.
+-- The same of a pass that gained these marks and entries, and of a bell that was rung for each entry. The marks of the requests
+-- that were answered stand in the history as these follow one another: what a request added is the entry at its mark, and the
+-- next mark is above it.
 pub record Serves (s : Serving) (note : SessionNote) (p q : PassView Entry) (from to : Intake) (before after : Outflow) (bell rung : Ringing) : Type 0 where
   pub entries : List Placed
   pub heard : BellUse
   pub fits : Fits s note q.number q.seen q.look entries heard from to before after
   pub passed : Passed p q note.marks.items entries
+  pub in_turn : SaysInTurn s q.number q.seen fits.done.requests fits.done.marks fits.done.entries fits.done.text goes_on (length p.seen) (length q.seen)
   pub rings : IsHeard heard.agains (length entries) bell rung
   pub left : heard.left ≡ rung.answers

@@ -4,6 +4,7 @@ pub mod Wishes
 pub mod Answers
 pub mod Sessions
 pub mod Pieces
+pub mod InTurn
 pub mod Ends
 pub mod Watches
 pub mod Fits

@@ -25,7 +25,7 @@ use Rattle.braid_session.specs.Sessions.{Placed, Course, goes_on, watched, Says,
 use Rattle.braid_session.specs.Pieces.{last_mark, NeverFall}
 use Rattle.braid_session.proofs.OneAnswers.{denied_or_wanted, one_wish}
 use Rattle.braid_session.proofs.OneText.{watched_alone, same_from}
-use Rattle.braid_world.specs.WholeSyncs.{StandAt, AreInTurn}
+use Rattle.braid_session.specs.InTurn.{StandAt, AreInTurn}
 
 -- requests begin with this one, and the others are those of what stands behind it
 pub record FirstIs (k : ℕ) (q : Request) (after : List ℕ) (qs : List Request) (rest : List ℕ) : Type 0 where

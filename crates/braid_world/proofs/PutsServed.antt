@@ -38,7 +38,8 @@ use Rattle.braid_sync.specs.Opening.{IsPlace}
 use Rattle.braid_sync.specs.Posting.{put_text, put_texts, Acknowledges, Confirms, Posts, posted, unwritten, unanswered, unaided}
 use Rattle.braid_sync.specs.Syncs.{PostsAll, all_sent, next_link, link_failed, no_link, no_room}
 use Rattle.braid_world.specs.Progress.{IsBeside, IsBrought}
-use Rattle.braid_world.specs.WholeSyncs.{StandAt, AreInTurn, IsInTurn, IsServed, AreServed, EndsByItself}
+use Rattle.braid_session.specs.InTurn.{StandAt, AreInTurn, IsInTurn}
+use Rattle.braid_world.specs.WholeSyncs.{IsServed, AreServed, EndsByItself}
 use Rattle.braid_world.proofs.Progress as progress
 use Rattle.braid_world.proofs.HeadRead.{all_of_members}
 use Rattle.braid_world.proofs.PutRead.{put_for, put_decides, put_means}

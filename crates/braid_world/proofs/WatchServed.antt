@@ -47,7 +47,8 @@ use Rattle.braid_sync.specs.Opening.{IsPlace, Begun, Opens, opened, ended, unwri
 use Rattle.braid_sync.specs.Syncs.{Subscribes, not_begun, caught_up, fell_short, failing, IsCut}
 use Rattle.braid_world.specs.Progress.{IsFront, IsBeside, IsBrought, IsGood, LearnsAll}
 use Rattle.braid_world.specs.ReadBack.{IsSubscription}
-use Rattle.braid_world.specs.WholeSyncs.{AreInTurn, IsInTurn, IsServed, EndsByItself}
+use Rattle.braid_session.specs.InTurn.{AreInTurn, IsInTurn}
+use Rattle.braid_world.specs.WholeSyncs.{IsServed, EndsByItself}
 use Rattle.braid_world.proofs.Progress as progress
 use Rattle.braid_world.proofs.FrontRead.{Text, one_head, head_decides, updates_front, no_fault, none_against, all_have, holds, pieces_read}
 use Rattle.braid_world.proofs.HeadRead.{frontier_named}

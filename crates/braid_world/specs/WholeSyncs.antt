@@ -9,6 +9,7 @@ use Rattle.braid_outbox.specs.Replicas.{ReplicaView, all_of, frontier}
 use Rattle.braid_outbox.specs.Laws.{IsPart}
 use Rattle.braid_session.specs.declared.serving.Serving.{Serving}
 use Rattle.braid_session.specs.Pieces.{last_mark, NeverFall}
+use Rattle.braid_session.specs.InTurn.{IsInTurn}
 use Rattle.braid_session.specs.Sessions.{Placed, Course, goes_on, watched, Says, none, direct, turn, watches, SessionText, whole, unmarked, watching}
 use Rattle.braid_sync.specs.declared.place.Place.{Place}
 use Rattle.braid_sync.specs.declared.end.SyncEnd.{SyncEnd}
@@ -18,29 +19,6 @@ use Rattle.braid_sync.specs.Learning.{HasVersion}
 use Rattle.braid_sync.specs.Opening.{IsPlace}
 use Rattle.braid_sync.specs.Syncs.{failing, SyncText}
 use Rattle.braid_world.specs.Progress.{IsBeside}
-
--- these entries stand in the history, the first at this place
-abbrev pub StandAt : List Entry → ℕ → List Entry → Type 0
-StandAt book n [] = Unit {0}
-StandAt book n (e ∷ es) = (slice_get book n ≡ Some e) × StandAt book (n + 1) es
-
--- How the marks of requests that are answered stand in the history, from a lowest to a highest: none falls; what was added at a
--- mark is the entry at that place; and the next mark is above it. Those of a subscription never fall either.
-abbrev pub AreInTurn : (s : Serving) (by : ℕ) (book : List Entry) (qs : List Request) (marks : List ℕ) (entries : List Placed) (text : List ℕ) (course : Course)
-    → Says s by book qs marks entries text course → ℕ → ℕ → Type 0
-AreInTurn s by book _ _ _ _ _ none low high = low ≤ high
-AreInTurn s by book _ _ _ _ _ (direct q d qs marks entries text course means says) low high = AreInTurn s by book qs marks entries text course says low high
-AreInTurn s by book _ _ _ _ _ (turn q wish n reply es qs marks entries text course means answers says) low high =
-    (low ≤ n) × StandAt book n es × AreInTurn s by book qs marks entries text course says (n + length es) high
-AreInTurn s by book _ _ _ _ _ (watches q from n marks stopped means held) low high =
-    (low ≤ n) × NeverFall n marks × (last_mark n marks ≤ high)
-
--- the same of a session's text, whose marks suffice for its requests
-abbrev pub IsInTurn : (s : Serving) (by : ℕ) (book : List Entry) (r marks text : List ℕ) (course : Course) → SessionText s by book r marks text course → ℕ → ℕ → Type 0
-IsInTurn s by book r marks _ _ (whole text w) low high = AreInTurn s by book w.requests marks w.entries w.front goes_on w.answered.says low high
-IsInTurn s by book r marks _ _ (unmarked text w) low high = ⊥
-IsInTurn s by book r marks _ _ (watching text stopped w) low high =
-    AreInTurn s by book w.requests marks w.entries text (watched stopped) w.answered.says low high
 
 -- A link was given, or has left to give, the whole text of a session of this server for the bytes sent on it. The session's marks
 -- suffice, and they stand in the history from a lowest to a highest.
