@@ -13,7 +13,8 @@ pub grows_none : (old : List ℕ) (lacked : Bool) → Grows [] old lacked old la
 grows_none old lacked = λ l. (l, sym (append-nil old))
 
 pub grows_more : (a b x y z : List ℕ) (p q r : Bool) → Grows a x p y q → Grows b y q z r → Grows (a ++ b) x p z r
-grows_more a b x y z p q r g h = λ l. let u = h l in let v = g u.0 in (v.0, u.1 ∙ ap (λ (t : List ℕ). t ++ b) v.1 ∙ append_assoc x a b)
+grows_more a b x y z p q r g h =
+    λ l. let u = h l in let v = g u.0 in (v.0, u.1 ∙ ap (λ (t : List ℕ). t ++ b) v.1 ∙ append_assoc x a b)
 
 pub counts_none : (old : ℕ) → Counts [] old old
 counts_none old = omega arith

@@ -67,23 +67,28 @@ IsRange value start end = AfterClose value start end []
 -- what is left where a value departs from the form: it begins with a byte that may not follow there, or is empty where more has to follow
 pub data IsDeparture (value rest : List ℕ) : Type 0 where
   no_gap : value ≡ codes "text" → rest ≡ [] → IsDeparture value rest
-  no_bracket : AfterGap value rest → starts is_space rest ≡ false → starts (λ b. b == 91) rest ≡ false → IsDeparture value rest
+  no_bracket : AfterGap value rest → starts is_space rest ≡ false → starts (λ b. b == 91) rest ≡ false
+      → IsDeparture value rest
   no_start : AfterBracket value rest → starts is_ascii_digit rest ≡ false → IsDeparture value rest
-  no_colon : (start : ℕ) → AfterStart value start rest → starts is_ascii_digit rest ≡ false → starts (λ b. b == 58) rest ≡ false → IsDeparture value rest
+  no_colon : (start : ℕ) → AfterStart value start rest → starts is_ascii_digit rest ≡ false
+      → starts (λ b. b == 58) rest ≡ false → IsDeparture value rest
   no_end : (start : ℕ) → AfterColon value start rest → starts is_ascii_digit rest ≡ false → IsDeparture value rest
-  no_close : (start end : ℕ) → AfterEnd value start end rest → starts is_ascii_digit rest ≡ false → starts (λ b. b == 93) rest ≡ false → IsDeparture value rest
+  no_close : (start end : ℕ) → AfterEnd value start end rest → starts is_ascii_digit rest ≡ false
+      → starts (λ b. b == 93) rest ≡ false → IsDeparture value rest
   more : (start end : ℕ) → AfterClose value start end rest → rest ≢ [] → IsDeparture value rest
 
 -- a number at the front of what is left is too large
 abbrev pub BeginsTooLarge : List ℕ → Type 0
-BeginsTooLarge rest = (digits after : List ℕ) × IsTooLarge digits × (starts is_ascii_digit after ≡ false) × (rest ≡ digits ++ after)
+BeginsTooLarge rest = (digits after : List ℕ) × IsTooLarge digits × (starts is_ascii_digit after ≡ false)
+    × (rest ≡ digits ++ after)
 
 -- the fault of a value that is no range. Form has the place of the byte that departs, or the length
 abbrev pub IsRangeFault : List ℕ → RangeFault → Type 0
 IsRangeFault value Unit = take_while is_other value ≢ codes "text"
 IsRangeFault value (Form at) = (rest : List ℕ) × IsDeparture value rest × (at + length rest ≡ length value)
 IsRangeFault value Number =
-    ((rest : List ℕ) × AfterBracket value rest × BeginsTooLarge rest) ⊎ ((start : ℕ) × (rest : List ℕ) × AfterColon value start rest × BeginsTooLarge rest)
+    ((rest : List ℕ) × AfterBracket value rest × BeginsTooLarge rest)
+        ⊎ ((start : ℕ) × (rest : List ℕ) × AfterColon value start rest × BeginsTooLarge rest)
 
 -- the fault of bytes that do not begin with this one, at the end of a value of `len` bytes
 abbrev pub IsByteFault : ℕ → ℕ → List ℕ → RangeFault → Type 0

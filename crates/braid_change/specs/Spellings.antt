@@ -31,11 +31,13 @@ patch_text p = length_text p.text ++ codes "\r\nContent-Range: " ++ range_text p
 -- a change: the length and the content of a body, or the number of patches and each patch as listed
 abbrev pub change_text : Change → List ℕ
 change_text (Body text) = length_text text ++ content_text text
-change_text (Patches patches) = codes "Patches: " ++ decimal (length patches) ++ codes "\r\n\r\n" ++ flat_map patch_text patches
+change_text (Patches patches) =
+    codes "Patches: " ++ decimal (length patches) ++ codes "\r\n\r\n" ++ flat_map patch_text patches
 
 -- the canonical spelling of an update
 abbrev pub canonical : UpdateView → List ℕ
-canonical u = codes "Version: " ++ spelled_id u.id ++ codes "\r\nParents:" ++ list_text u.parents ++ codes "\r\n" ++ change_text u.change ++ codes "\r\n"
+canonical u = codes "Version: " ++ spelled_id u.id ++ codes "\r\nParents:" ++ list_text u.parents ++ codes "\r\n"
+    ++ change_text u.change ++ codes "\r\n"
 
 -- the canonical spellings of updates, one after the other
 abbrev pub canonical_all : List UpdateView → List ℕ

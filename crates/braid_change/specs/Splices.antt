@@ -11,7 +11,8 @@ use Rattle.braid_change.specs.declared.splices.SpliceFault.TheVariants.{OutOfRan
 -- a patch in front of joined ones: one with the next where both have one start, with the last end and the texts in order
 abbrev pub join : Patch → List Patch → List Patch
 join p [] = p ∷ []
-join p (q ∷ qs) = if p.start == q.start then record { start = p.start; end = q.end; text = p.text ++ q.text } ∷ qs else (p ∷ q ∷ qs)
+join p (q ∷ qs) = if p.start == q.start then record { start = p.start; end = q.end; text = p.text ++ q.text } ∷ qs
+    else (p ∷ q ∷ qs)
 
 -- neighbours with one start made into one patch, with the last end and the texts in order
 abbrev pub joined : List Patch → List Patch
@@ -59,7 +60,8 @@ StartAfter r (q ∷ qs) = r.start < q.start
 -- ranges that rise and do not overlap, each with another start, within a text of this length; all begin at place `low` or later
 abbrev pub AreRanges : ℕ → ℕ → List Patch → Type 0
 AreRanges low len [] = Unit {0}
-AreRanges low len (r ∷ rs) = (low ≤ r.start) × (r.start ≤ r.end) × (r.end ≤ len) × StartAfter r rs × AreRanges r.end len rs
+AreRanges low len (r ∷ rs) = (low ≤ r.start) × (r.start ≤ r.end) × (r.end ≤ len) × StartAfter r rs
+    × AreRanges r.end len rs
 
 -- the number of characters that ranges replace
 abbrev pub removed : List Patch → ℕ

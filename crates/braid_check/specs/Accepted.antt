@@ -33,7 +33,8 @@ history_of us = reverse (once_in (reverse us))
 
 -- each update is new or known to a replica that took those before it
 abbrev pub AreAccepted : List UpdateView → Type 0
-AreAccepted us = (front back : List UpdateView) (u : UpdateView) → us ≡ front ++ u ∷ back → IsAccepted (replica_answer (history_of front) u)
+AreAccepted us = (front back : List UpdateView) (u : UpdateView) → us ≡ front ++ u ∷ back
+    → IsAccepted (replica_answer (history_of front) u)
 
 -- behind these updates, each of which is accepted, this one is not
 pub record IsRefused (us : List UpdateView) (u : UpdateView) : Type 0 where

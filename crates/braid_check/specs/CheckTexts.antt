@@ -33,8 +33,10 @@ refusal_text New = []
 refusal_text Known = []
 refusal_text (Clash id) = codes "fault: Clash " ++ spelled_id id ++ codes "\n"
 refusal_text (UnknownParent id) = codes "fault: UnknownParent " ++ spelled_id id ++ codes "\n"
-refusal_text (OutOfRange patch len) = codes "fault: OutOfRange patch " ++ decimal patch ++ codes " len " ++ decimal len ++ codes "\n"
-refusal_text (Full which need room) = codes "fault: Full " ++ which_name which ++ codes " " ++ decimal (limit_of replica_limits which) ++ codes "\n"
+refusal_text (OutOfRange patch len) =
+    codes "fault: OutOfRange patch " ++ decimal patch ++ codes " len " ++ decimal len ++ codes "\n"
+refusal_text (Full which need room) =
+    codes "fault: Full " ++ which_name which ++ codes " " ++ decimal (limit_of replica_limits which) ++ codes "\n"
 refusal_text Memory = []
 
 -- the line for a read that failed
@@ -69,8 +71,10 @@ pub data Ending : Type 0 where
 
 -- the bytes show a fault of the stream, or an update that is refused; the updates before it are accepted
 pub data IsFound (bytes text : List ℕ) : Type 0 where
-  fault : (us : List UpdateView) (f : FrameFault) → AreAccepted us → HasFault us bytes f → text ≡ fault_text f → IsFound bytes text
-  refusal : (us : List UpdateView) (u : UpdateView) → IsRefused us u → BeginsWith us u bytes → text ≡ refusal_text (replica_answer (history_of us) u) → IsFound bytes text
+  fault : (us : List UpdateView) (f : FrameFault) → AreAccepted us → HasFault us bytes f → text ≡ fault_text f
+      → IsFound bytes text
+  refusal : (us : List UpdateView) (u : UpdateView) → IsRefused us u → BeginsWith us u bytes
+      → text ≡ refusal_text (replica_answer (history_of us) u) → IsFound bytes text
 
 -- the bytes show neither a fault of the stream nor a refused update: the updates that they complete are accepted, and they
 -- have no fault
@@ -81,7 +85,8 @@ pub record ShowNothing (bytes : List ℕ) : Type 0 where
 
 -- the bytes are a stream of accepted updates; or they are torn behind such: neither a stream nor at fault
 pub data IsEndText (bytes : List ℕ) (status : Status) (text : List ℕ) : Type 0 where
-  stream : (us : List UpdateView) → AreAccepted us → IsStream us bytes → status ≡ Done → text ≡ history_text (history_of us) → IsEndText bytes status text
+  stream : (us : List UpdateView) → AreAccepted us → IsStream us bytes → status ≡ Done
+      → text ≡ history_text (history_of us) → IsEndText bytes status text
   torn : ShowNothing bytes → IsTorn bytes → status ≡ Bad → text ≡ torn_text (length bytes) → IsEndText bytes status text
 
 -- the status and the text that follow from the bytes and from how reading ended

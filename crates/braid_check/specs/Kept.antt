@@ -37,14 +37,19 @@ pub record RefusesOne (us : List UpdateView) (bytes : List ℕ) (answer : Accept
 
 -- why reading stopped, after these bytes with these updates
 abbrev pub StopsFor : List UpdateView → List ℕ → Intake → Intake → Stop → Type 0
-StopsFor us bytes before after stops.End = EndsBehind bytes before after × IsStream us bytes × (length bytes < most_bytes)
+StopsFor us bytes before after stops.End = EndsBehind bytes before after × IsStream us bytes
+    × (length bytes < most_bytes)
 StopsFor us bytes before after (stops.Torn at) =
-    EndsBehind bytes before after × HaveUpdates us bytes × IsTorn bytes × (at ≡ length bytes) × (length bytes < most_bytes)
-StopsFor us bytes before after (stops.Fault f) = Moves bytes before after × HasFault us bytes f × (length bytes ≤ most_bytes)
+    EndsBehind bytes before after × HaveUpdates us bytes × IsTorn bytes × (at ≡ length bytes)
+        × (length bytes < most_bytes)
+StopsFor us bytes before after (stops.Fault f) = Moves bytes before after × HasFault us bytes f
+    × (length bytes ≤ most_bytes)
 StopsFor us bytes before after (stops.Refused answer) =
     Moves bytes before after × RefusesOne us bytes answer × (length bytes ≤ most_bytes)
-StopsFor us bytes before after stops.ReadFault = FailsBehind bytes before after × HaveUpdates us bytes × (length bytes < most_bytes)
-StopsFor us bytes before after stops.Spent = Moves bytes before after × HaveUpdates us bytes × (length bytes ≡ most_bytes)
+StopsFor us bytes before after stops.ReadFault = FailsBehind bytes before after × HaveUpdates us bytes
+    × (length bytes < most_bytes)
+StopsFor us bytes before after stops.Spent = Moves bytes before after × HaveUpdates us bytes
+    × (length bytes ≡ most_bytes)
 
 -- a resource took updates from a source, up to where reading stopped
 pub record ReadsHistory (H : List UpdateView) (stop : Stop) (before after : Intake) : Type 0 where

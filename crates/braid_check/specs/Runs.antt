@@ -37,7 +37,8 @@ abbrev pub CheckRuns : Status → Intake → Intake → Outflow → Outflow → 
 CheckRuns Memory before after old new = GivesSome before after × (new ≡ old)
 CheckRuns status before after old new =
     ((text : List ℕ) × Checked before after status text × WritesAll text old new)
-    ⊎ ((status ≡ Outside) × ((own : Status) × (text : List ℕ) × Checked before after own text × WritesPart text old new))
+    ⊎ ((status ≡ Outside)
+        × ((own : Status) × (text : List ℕ) × Checked before after own text × WritesPart text old new))
 
 -- the line for words that are no command
 abbrev pub usage_text : List ℕ

@@ -31,4 +31,5 @@ RefusesLaw =
 abbrev pub CausesLaw : Type 0
 CausesLaw =
     (words : List (List ℕ)) (status : Status) (old new : Outflow) → DrillRuns words status old new
-    → (status ≡ Usage → HasNoForm words) × (status ≡ Outside → Rose old.faults new.faults) × (status ≢ Bad) × (status ≢ Cut)
+    → (status ≡ Usage → HasNoForm words) × (status ≡ Outside → Rose old.faults new.faults) × (status ≢ Bad)
+    × (status ≢ Cut)

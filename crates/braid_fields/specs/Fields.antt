@@ -75,7 +75,8 @@ is_no_colon byte = not (byte == 58)
 abbrev pub field_from : List ℕ → List ℕ → Option Field
 field_from name [] = None
 field_from name (colon ∷ padded) =
-    if is_name name && list_all is_in_value (trimmed padded) then Some (record { name = name; value = trimmed padded }) else None
+    if is_name name && list_all is_in_value (trimmed padded) then Some (record { name = name; value = trimmed padded })
+        else None
 
 -- the field of a content
 abbrev pub field_in : List ℕ → Option Field

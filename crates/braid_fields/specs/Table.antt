@@ -118,7 +118,8 @@ is_backwards range = nat_lt range.end range.start
 abbrev pub field_rows : Bool → Option ℕ → Parts → List Row
 field_rows transfer given p =
     (transfer || is_encoded p.encoding, reasons.Encoded)
-    ∷ (is_repeated p.patches || is_repeated (length_lines given p.length) || is_repeated p.range || is_repeated p.merge_type, reasons.RepeatedField)
+    ∷ (is_repeated p.patches || is_repeated (length_lines given p.length) || is_repeated p.range
+        || is_repeated p.merge_type, reasons.RepeatedField)
     ∷ (is_other_merge_type p.merge_type, reasons.OtherMergeType)
     ∷ []
 
@@ -148,7 +149,8 @@ len_rows given values =
 
 -- and on how long it is, behind contents of `used` bytes
 abbrev pub length_rows : Option ℕ → ℕ → List (List ℕ) → List Row
-length_rows given used values = len_rows given values ++ (nat_lt 1_048_576 (used + length_of given values), reasons.TooLong) ∷ []
+length_rows given used values =
+    len_rows given values ++ (nat_lt 1_048_576 (used + length_of given values), reasons.TooLong) ∷ []
 
 -- rows on the form of a range
 abbrev pub form_rows : List (List ℕ) → List Row
@@ -170,7 +172,8 @@ beside_rows values =
 
 -- rows on the content of an update's head: with `Patches` no length is looked at, and no range may stand there
 abbrev pub content_rows : Option ℕ → Parts → List Row
-content_rows given p = if is_there p.patches then beside_rows p.range else (length_rows given 0 p.length ++ range_rows p.range)
+content_rows given p = if is_there p.patches then beside_rows p.range
+    else (length_rows given 0 p.length ++ range_rows p.range)
 
 -- rows on the fields of a patch's head as such
 abbrev pub patch_field_rows : HeadFields → List Row
@@ -198,7 +201,8 @@ patch_plan range len = record { start = range.start; end = range.end; len = len 
 -- the content that a head without `Patches` asks for
 abbrev pub alone_asks : Option ℕ → Parts → Asks
 alone_asks given p =
-    if is_there p.range then asks.OnePatch (patch_plan (range_of p.range) (length_of given p.length)) else asks.Body (length_of given p.length)
+    if is_there p.range then asks.OnePatch (patch_plan (range_of p.range) (length_of given p.length))
+        else asks.Body (length_of given p.length)
 
 -- the content that a head asks for
 abbrev pub asks_of : Option ℕ → Parts → Asks
@@ -215,7 +219,8 @@ plan_of given p = record {
 -- what the rows say of an update's head, in their order
 abbrev pub judged : Bool → Option ℕ → Parts → Result Plan Reason
 judged transfer given p =
-    first_row (field_rows transfer given p ++ (name_rows p ++ (count_rows p.patches ++ content_rows given p))) (plan_of given p)
+    first_row (field_rows transfer given p
+        ++ (name_rows p ++ (count_rows p.patches ++ content_rows given p))) (plan_of given p)
 
 -- the plan of an update's head, or the first reason against it
 unfoldable pub judge_head : List Field → Result Plan Reason
@@ -228,7 +233,8 @@ judge_put len p = judged false (Some len) p
 -- the plan of a patch's head, or the first reason against it
 unfoldable pub judge_patch : ℕ → ℕ → List Field → Result PatchPlan Reason
 judge_patch used before fs =
-    first_row (patch_rows used before (known fs)) (patch_plan (range_of (known fs).parts.range) (length_of None (known fs).parts.length))
+    first_row (patch_rows used before (known fs))
+        (patch_plan (range_of (known fs).parts.range) (length_of None (known fs).parts.length))
 
 -- an answer is the plan or the reason that was judged. Memory may come for any head
 abbrev pub Plans : {A : Type 0} → Result A PlanFault → Result A Reason → Type 0

@@ -84,7 +84,8 @@ is_small digits = nat_lt 0 (length digits) && nat_le (length digits) 10 && nat_l
 
 -- the number that digits write, where it fits, and what follows them
 abbrev pub number_from : List ℕ → List ℕ → Option Numbered
-number_from digits rest = if is_small digits then Some (record { number = digits_value 10 digits; rest = rest }) else None
+number_from digits rest = if is_small digits then Some (record { number = digits_value 10 digits; rest = rest })
+    else None
 
 -- the number at the front, and what follows its digits
 abbrev pub number_at : List ℕ → Option Numbered
@@ -98,7 +99,9 @@ nothing_behind range (b ∷ bytes) = None
 -- the range, from what follows the colon
 abbrev pub range_from : ℕ → List ℕ → Option TextRange
 range_from start bytes =
-    option_and_then (λ (n : Numbered). option_and_then (nothing_behind (record { start = start; end = n.number })) (after_byte 93 n.rest)) (number_at bytes)
+    option_and_then
+        (λ (n : Numbered). option_and_then (nothing_behind (record { start = start; end = n.number }))
+            (after_byte 93 n.rest)) (number_at bytes)
 
 -- the range, from what follows the bracket
 abbrev pub range_after : List ℕ → Option TextRange
@@ -107,4 +110,5 @@ range_after bytes =
 
 -- the range that a value is: `text`, one or more spaces, `[`, a number, `:`, a number, `]`, and nothing more
 unfoldable pub range_in_value : List ℕ → Option TextRange
-range_in_value value = option_and_then range_after (option_and_then (after_byte 91) (option_and_then after_gap (after_unit value)))
+range_in_value value =
+    option_and_then range_after (option_and_then (after_byte 91) (option_and_then after_gap (after_unit value)))

@@ -15,19 +15,22 @@ writes_none flow = record { written = sym (append_known-nil flow.written); fault
 pub writes_more : (a b : List ℕ) (x y z : Outflow) → WritesAll a x y → WritesAll b y z → WritesAll (a ++ b) x z
 writes_more a b x y z p q =
     record {
-      written = q.written ∙ ap (λ (k : Option (List ℕ)). append_known k b) p.written ∙ append_known-append x.written a b;
+      written = q.written ∙ ap (λ (k : Option (List ℕ)). append_known k b) p.written
+          ∙ append_known-append x.written a b;
       faults = q.faults ∙ p.faults;
     }
 
 -- where bytes were written, a part of more bytes that go on from them was
-pub part_behind : (went bytes : List ℕ) (x y z : Outflow) → WritesAll went x y → WritesPart bytes y z → WritesPart (went ++ bytes) x z
+pub part_behind : (went bytes : List ℕ) (x y z : Outflow) → WritesAll went x y → WritesPart bytes y z
+    → WritesPart (went ++ bytes) x z
 part_behind went bytes x y z w p =
     record {
       front = went ++ p.front;
       rest = p.rest;
       whole = ap (λ (t : List ℕ). went ++ t) p.whole ∙ sym (append_assoc went p.front p.rest);
       unfinished = p.unfinished;
-      written = p.written ∙ ap (λ (k : Option (List ℕ)). append_known k p.front) w.written ∙ append_known-append x.written went p.front;
+      written = p.written ∙ ap (λ (k : Option (List ℕ)). append_known k p.front) w.written
+          ∙ append_known-append x.written went p.front;
       never_falls = omega (arith, w.faults, p.never_falls);
       rose = rw (← w.faults) p.rose;
     }
@@ -49,7 +52,8 @@ part_of_more bytes more x y p =
       rose = p.rose;
     }
 
-pub puts_none : (held : List ℕ) (failed : Bool) (flow : Outflow) → let v : BufferView = record { held = held; failed = failed; outflow = flow } in Puts [] v v
+pub puts_none : (held : List ℕ) (failed : Bool) (flow : Outflow)
+    → let v : BufferView = record { held = held; failed = failed; outflow = flow } in Puts [] v v
 puts_none held true flow = refl
 puts_none held false flow = record { went = []; whole = append-nil held; written = writes_none flow }
 
@@ -57,16 +61,20 @@ put_more : (a b h k m : List ℕ) (x y z : Outflow) → HasPut a h k x y → Has
 put_more a b h k m x y z p q =
     record {
       went = p.went ++ q.went;
-      whole = sym (append_assoc h a b) ∙ ap (λ (t : List ℕ). t ++ b) p.whole ∙ append_assoc p.went k b ∙ ap (λ (t : List ℕ). p.went ++ t) q.whole ∙ sym (append_assoc p.went q.went m);
+      whole = sym (append_assoc h a b) ∙ ap (λ (t : List ℕ). t ++ b) p.whole ∙ append_assoc p.went k b
+          ∙ ap (λ (t : List ℕ). p.went ++ t) q.whole ∙ sym (append_assoc p.went q.went m);
       written = writes_more p.went q.went x y z p.written q.written;
     }
 
-put_and_failed : (a b h k : List ℕ) (x y z : Outflow) → HasPut a h k x y → WritesPart (k ++ b) y z → WritesPart (h ++ (a ++ b)) x z
+put_and_failed : (a b h k : List ℕ) (x y z : Outflow) → HasPut a h k x y → WritesPart (k ++ b) y z
+    → WritesPart (h ++ (a ++ b)) x z
 put_and_failed a b h k x y z p q =
-    let whole : p.went ++ (k ++ b) ≡ h ++ (a ++ b) = sym (append_assoc p.went k b) ∙ ap (λ (t : List ℕ). t ++ b) (sym p.whole) ∙ append_assoc h a b in
+    let whole : p.went ++ (k ++ b) ≡ h ++ (a ++ b) = sym (append_assoc p.went k b)
+        ∙ ap (λ (t : List ℕ). t ++ b) (sym p.whole) ∙ append_assoc h a b in
     subst (λ (t : List ℕ). WritesPart t x z) whole (part_behind p.went (k ++ b) x y z p.written q)
 
-by_cases : (f g e : Bool) (a b : List ℕ) (x y z : BufferView) → x.failed ≡ f → y.failed ≡ g → z.failed ≡ e → PutsBy f g a x y → PutsBy g e b y z → PutsBy f e (a ++ b) x z
+by_cases : (f g e : Bool) (a b : List ℕ) (x y z : BufferView) → x.failed ≡ f → y.failed ≡ g → z.failed ≡ e
+    → PutsBy f g a x y → PutsBy g e b y z → PutsBy f e (a ++ b) x z
 by_cases true g e a b x y z xf yf zf p q = again g yf q
   where
     again : (t : Bool) → y.failed ≡ t → PutsBy t e b y z → z ≡ x
@@ -74,10 +82,13 @@ by_cases true g e a b x y z xf yf zf p q = again g yf q
     again false yt r = absurd (let is : true ≡ false = sym xf ∙ ap (λ (v : BufferView). v.failed) (sym p) ∙ yt in cc)
 by_cases false false false a b x y z xf yf zf p q = put_more a b x.held y.held z.held x.outflow y.outflow z.outflow p q
 by_cases false false true a b x y z xf yf zf p q = put_and_failed a b x.held y.held x.outflow y.outflow z.outflow p q
-by_cases false true false a b x y z xf yf zf p q = absurd (let is : true ≡ false = sym yf ∙ ap (λ (v : BufferView). v.failed) (sym q) ∙ zf in cc)
+by_cases false true false a b x y z xf yf zf p q =
+    absurd (let is : true ≡ false = sym yf ∙ ap (λ (v : BufferView). v.failed) (sym q) ∙ zf in cc)
 by_cases false true true a b x y z xf yf zf p q =
-    let more : WritesPart ((x.held ++ a) ++ b) x.outflow y.outflow = part_of_more (x.held ++ a) b x.outflow y.outflow p in
-    subst (λ (v : BufferView). WritesPart (x.held ++ (a ++ b)) x.outflow v.outflow) (sym q) (subst (λ (t : List ℕ). WritesPart t x.outflow y.outflow) (append_assoc x.held a b) more)
+    let more : WritesPart ((x.held ++ a) ++ b) x.outflow y.outflow =
+        part_of_more (x.held ++ a) b x.outflow y.outflow p in
+    subst (λ (v : BufferView). WritesPart (x.held ++ (a ++ b)) x.outflow v.outflow) (sym q)
+        (subst (λ (t : List ℕ). WritesPart t x.outflow y.outflow) (append_assoc x.held a b) more)
 
 pub puts_more : (a b : List ℕ) (x y z : BufferView) → Puts a x y → Puts b y z → Puts (a ++ b) x z
 puts_more a b x y z p q = by_cases x.failed y.failed z.failed a b x y z refl refl refl p q

@@ -45,7 +45,8 @@ BeginsSo MoreFields kept before line = BeginsWithLine kept
 pub record AreLines (judge : List (List ℕ) → Verdict) (kept : List ℕ) (line : ℕ) (awaits : Awaits) : Type 0 where
   pub within : line ≤ length kept
   pub begun : begun_from [] kept ≡ drop line kept
-  pub goes_on : (ls : List (List ℕ)) → judge (lines_of kept ++ ls) ≡ behind line (fields_in (lines_of kept)) (awaited awaits ls)
+  pub goes_on : (ls : List (List ℕ))
+      → judge (lines_of kept ++ ls) ≡ behind line (fields_in (lines_of kept)) (awaited awaits ls)
   pub begins : BeginsSo awaits kept (lines_of kept) line
 
 -- a line has ended at a head's front: the lines before it, and where it begins
@@ -87,11 +88,13 @@ IsFirst MoreFields = ⊥
 pub record GoesOn (awaits : Awaits) (line : List ℕ) (next : Awaits) : Type 0 where
   pub some : is_empty_line line ≡ false
   pub later : IsFirst next → ⊥
-  pub goes_on : (ls : List (List ℕ)) → awaited awaits (line ∷ ls) ≡ behind (length line) (fields_in (line ∷ [])) (awaited next ls)
+  pub goes_on : (ls : List (List ℕ))
+      → awaited awaits (line ∷ ls) ≡ behind (length line) (fields_in (line ∷ [])) (awaited next ls)
 
 -- what a line is to a head, by what was awaited
 abbrev pub Judges : Awaits → List ℕ → LineIs → Type 0
 Judges awaits line Gap = IsFirst awaits × (is_empty_line line ≡ true)
 Judges awaits line (Fine next) = GoesOn awaits line next
 Judges awaits line Last = (is_empty_line line ≡ true) × (awaits ≡ MoreFields)
-Judges awaits line (Bad reason) = (IsFirst awaits → is_empty_line line ≡ false) × (awaited awaits (line ∷ []) ≡ Wrong 0 reason)
+Judges awaits line (Bad reason) = (IsFirst awaits → is_empty_line line ≡ false)
+    × (awaited awaits (line ∷ []) ≡ Wrong 0 reason)

@@ -32,23 +32,29 @@ with_patches p patches at rest = Whole (patches_update p.begun (p.done.items ++ 
 -- what bytes say of the update in hand behind one more patch that is whole
 abbrev pub behind_patch : Patching → Patch → ℕ → List ℕ → Outcome UpdateView
 behind_patch p patch at bytes =
-    then_read (patches_at p.left (p.used + patch_len patch) patch.end at bytes) (λ patches last end. with_patches p (patch ∷ patches) last end)
+    then_read (patches_at p.left (p.used + patch_len patch) patch.end at bytes)
+        (λ patches last end. with_patches p (patch ∷ patches) last end)
 
 -- what bytes say of the update whose head asks for this
 abbrev pub behind_head : Plan → ℕ → List ℕ → Outcome UpdateView
 behind_head plan at bytes =
-    then_read (change_at plan.asks at bytes) (λ change last end. Whole (record { id = plan.id; parents = plan.parents; change = change }) last end)
+    then_read (change_at plan.asks at bytes)
+        (λ change last end. Whole (record { id = plan.id; parents = plan.parents; change = change }) last end)
 
 -- what bytes say of an update of so many patches
 abbrev pub behind_count : Begun → ℕ → ℕ → List ℕ → Outcome UpdateView
-behind_count begun count at bytes = then_read (patches_at count 0 0 at bytes) (λ patches last end. Whole (patches_update begun patches) last end)
+behind_count begun count at bytes =
+    then_read (patches_at count 0 0 at bytes) (λ patches last end. Whole (patches_update begun patches) last end)
 
 -- what bytes say of the update in hand: `at` is the place of the first of them, which is the first that is kept
 abbrev pub resume : Phase → ℕ → List ℕ → Outcome UpdateView
 resume Lines at bytes = next_at at bytes
-resume (Body begun len) at bytes = then_read (content_at len at bytes) (λ text last end. Whole (body_update begun text) last end)
-resume (PatchLines p) at bytes = then_read (patches_at (suc p.left) p.used p.before at bytes) (λ patches last end. with_patches p patches last end)
-resume (PatchContent p plan) at bytes = then_read (content_at plan.len at bytes) (λ text last end. behind_patch p (patch_of plan text) last end)
+resume (Body begun len) at bytes =
+    then_read (content_at len at bytes) (λ text last end. Whole (body_update begun text) last end)
+resume (PatchLines p) at bytes =
+    then_read (patches_at (suc p.left) p.used p.before at bytes) (λ patches last end. with_patches p patches last end)
+resume (PatchContent p plan) at bytes =
+    then_read (content_at plan.len at bytes) (λ text last end. behind_patch p (patch_of plan text) last end)
 resume (Faulted f) at bytes = Bad f.at f.reason
 resume NoMemory at bytes = Part
 

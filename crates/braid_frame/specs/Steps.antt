@@ -60,7 +60,8 @@ pub record Completed (us : List UpdateView) (u : UpdateView) (at : ℕ) (bytes :
 -- what is left where a line, a head or a content has ended with the bytes: the step took so much of its piece
 abbrev pub Finishes : List UpdateView → List ℕ → ℕ → Result Fed FeedFault → State → Type 0
 Finishes us bytes taken (Ok fed) new =
-    (fed.taken ≡ taken) × StandsAs new.phase (us ++ updates_of fed.update) new.at new.kept.items bytes × IsReading new.phase × IfEnds us fed.update bytes
+    (fed.taken ≡ taken) × StandsAs new.phase (us ++ updates_of fed.update) new.at new.kept.items bytes
+        × IsReading new.phase × IfEnds us fed.update bytes
 Finishes us bytes taken (Err (Frame f)) new = HasFault us bytes f × (new.phase ≡ Faulted f)
 Finishes us bytes taken (Err Memory) new = new.phase ≡ NoMemory
 
@@ -79,7 +80,8 @@ Steps us bytes piece (Err Memory) new = new.phase ≡ NoMemory
 
 -- a head that asks for nothing is a fault at the head's place, or there was no memory
 abbrev pub IsRefused : ℕ → PlanFault → FeedFault → State → Type 0
-IsRefused at (plans.Reason r) fault new = (fault ≡ Frame (record { at = at; reason = r })) × (new.phase ≡ Faulted (record { at = at; reason = r }))
+IsRefused at (plans.Reason r) fault new = (fault ≡ Frame (record { at = at; reason = r }))
+    × (new.phase ≡ Faulted (record { at = at; reason = r }))
 IsRefused at plans.Memory fault new = (fault ≡ Memory) × (new.phase ≡ NoMemory)
 
 -- some updates and bytes lead to this phase

@@ -44,7 +44,8 @@ AsksLength (asks.Patches count) n = ⊥
 -- the table has nothing against the fields, and they ask for a content of so many bytes
 abbrev pub AsksContent : Owner → List Field → ℕ → Type 0
 AsksContent AnUpdate fields n = (plan : Plan) × (judge_head fields ≡ Ok plan) × AsksLength plan.asks n
-AsksContent (APatch used before) fields n = (plan : PatchPlan) × (judge_patch used before fields ≡ Ok plan) × (plan.len ≡ n)
+AsksContent (APatch used before) fields n = (plan : PatchPlan) × (judge_patch used before fields ≡ Ok plan)
+    × (plan.len ≡ n)
 
 -- how many status lines a head may have
 abbrev pub most_statuses : Owner → ℕ
@@ -68,8 +69,10 @@ pub record IsTakenForStatus (owner : Owner) (statuses fields : List (List ℕ)) 
 -- behind such lines, a line is wrong for this reason: a status line of another form; a line that is neither empty nor a
 -- field line, nor taken for a status line; or an empty line directly behind a status line
 pub data IsWrongLine (owner : Owner) (statuses fields : List (List ℕ)) (line : List ℕ) : Reason → Type 0 where
-  other_form : IsTakenForStatus owner statuses fields line → (IsStatusLine line → ⊥) → IsWrongLine owner statuses fields line BadStatus
-  no_field_line : is_empty_line line ≡ false → ((name value : List ℕ) → IsFieldLine name value line → ⊥) → (IsTakenForStatus owner statuses fields line → ⊥)
+  other_form : IsTakenForStatus owner statuses fields line → (IsStatusLine line → ⊥)
+      → IsWrongLine owner statuses fields line BadStatus
+  no_field_line : is_empty_line line ≡ false → ((name value : List ℕ) → IsFieldLine name value line → ⊥)
+      → (IsTakenForStatus owner statuses fields line → ⊥)
       → IsWrongLine owner statuses fields line BadLine
   no_field_yet : length statuses ≡ 1 → fields ≡ [] → IsEmptyLine line → IsWrongLine owner statuses fields line BadLine
 

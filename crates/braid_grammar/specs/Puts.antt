@@ -58,7 +58,8 @@ HasReason (asks.Patches count) bytes reason = BeginsWrongPatch count bytes reaso
 
 -- the bytes end before the content that is asked for is whole: they begin with none, and nothing is wrong with what they have
 pub record IsShort (asks : Asks) (bytes : List ℕ) : Type 0 where
-  pub no_content : (change : Change) (content rest : List ℕ) → SpellsChange asks change content → bytes ≡ content ++ rest → ⊥
+  pub no_content : (change : Change) (content rest : List ℕ) → SpellsChange asks change content
+      → bytes ≡ content ++ rest → ⊥
   pub no_reason : (reason : Reason) → HasReason asks bytes reason → ⊥
 
 -- the bytes begin with the content that is asked for, and what follows it is no gap
@@ -93,7 +94,8 @@ pub record SpellsPut (u : UpdateView) (parts : Parts) (body : List ℕ) : Type 0
 -- the fields of a PUT have this reason against them, or they have none and the content that they ask for has it
 pub data HasPutReason (parts : Parts) (body : List ℕ) (reason : Reason) : Type 0 where
   of_fields : judge_put (length body) parts ≡ Err reason → HasPutReason parts body reason
-  of_content : (plan : Plan) → IsPlanOf parts body plan → HasReason plan.asks body reason → HasPutReason parts body reason
+  of_content : (plan : Plan) → IsPlanOf parts body plan → HasReason plan.asks body reason
+      → HasPutReason parts body reason
 
 -- what is wrong with a PUT. Memory may come for any
 abbrev pub IsPutFault : Parts → List ℕ → PutFault → Type 0

@@ -73,4 +73,6 @@ IsPlanned plan = (fs : List Field) × (judge_head fs ≡ Ok plan)
 
 -- the update of a plan, from behind its head
 abbrev pub update_behind : Plan → ℕ → List ℕ → Outcome UpdateView
-update_behind plan at bytes = then_read (change_at plan.asks at bytes) (λ change last end. Whole (record { id = plan.id; parents = plan.parents; change = change }) last end)
+update_behind plan at bytes =
+    then_read (change_at plan.asks at bytes)
+        (λ change last end. Whole (record { id = plan.id; parents = plan.parents; change = change }) last end)

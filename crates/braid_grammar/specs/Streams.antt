@@ -105,7 +105,8 @@ pub record AfterGap (P Q : List ℕ → Type 0) (bytes : List ℕ) : Type 0 wher
 -- patches, each after a gap
 abbrev pub SpellPatches : ℕ → ℕ → List Patch → List ℕ → Type 0
 SpellPatches used before [] bytes = bytes ≡ []
-SpellPatches used before (p ∷ ps) bytes = AfterGap (SpellsPatch used before p) (SpellPatches (used + patch_len p) p.end ps) bytes
+SpellPatches used before (p ∷ ps) bytes =
+    AfterGap (SpellsPatch used before p) (SpellPatches (used + patch_len p) p.end ps) bytes
 
 -- one patch whose range stands in the update's head
 pub record IsOnePatch (plan : PatchPlan) (patches : List Patch) (bytes : List ℕ) : Type 0 where
@@ -160,7 +161,8 @@ pub record Completes (us : List UpdateView) (bytes : List ℕ) : Type 0 where
   pub front : List ℕ
   pub rest : List ℕ
   pub stream : IsStream us front
-  pub no_more : (u : UpdateView) (gap first more : List ℕ) → IsGap gap → SpellsUpdate u first → rest ≡ gap ++ (first ++ more) → ⊥
+  pub no_more : (u : UpdateView) (gap first more : List ℕ) → IsGap gap → SpellsUpdate u first
+      → rest ≡ gap ++ (first ++ more) → ⊥
   pub spelled : bytes ≡ front ++ rest
 
 -- the bytes complete these updates and no more, and have no fault

@@ -10,7 +10,8 @@ use Rattle.braid_graph.specs.Entries.{GraphEntry, Holds, HoldsAll, has_id}
 -- a member of the ancestry of F: a member of F, or a parent of a member of the ancestry, and nothing else
 pub data IsAncestor (es : List GraphEntry) (F : List (List ℕ)) : List ℕ → Type 0 where
   named : (v : List ℕ) → Contains F v → IsAncestor es F v
-  parent : (e : GraphEntry) (v : List ℕ) → Contains es e → IsAncestor es F e.id → Contains e.parents v → IsAncestor es F v
+  parent : (e : GraphEntry) (v : List ℕ) → Contains es e → IsAncestor es F e.id → Contains e.parents v
+      → IsAncestor es F v
 
 -- a set that has the members of F and each parent of a member
 pub record IsClosed (es : List GraphEntry) (F xs : List (List ℕ)) : Type 0 where

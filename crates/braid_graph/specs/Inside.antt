@@ -37,7 +37,8 @@ cleared flags ns = fold (λ (old : List Bool) (n : ℕ). slice_set old n false) 
 
 -- this is the number of a parent of the entry with number n
 abbrev pub IsParentNumber : List GraphEntry → ℕ → ℕ → Type 0
-IsParentNumber es n m = (e : GraphEntry) × (v : List ℕ) × (slice_get es n ≡ Some e) × Contains e.parents v × IsNumberOf es v m
+IsParentNumber es n m = (e : GraphEntry) × (v : List ℕ) × (slice_get es n ≡ Some e) × Contains e.parents v
+    × IsNumberOf es v m
 
 -- the numbers of these identifiers are marked
 abbrev pub AllMarked : List GraphEntry → List (List ℕ) → List Bool → Type 0
@@ -107,13 +108,15 @@ pub record AreEnds (es : List GraphEntry) (ends : List ℕ) : Type 0 where
 
 -- the numbers in the fronts are those in the old ones, and those that stand behind one of these
 abbrev pub ReachesMore : List GraphEntry → List ℕ → List ℕ → (ℕ → Type 0) → Type 0
-ReachesMore es old new more = (m : ℕ) → Reaches (starts_of es) new m ↔ (Reaches (starts_of es) old m ⊎ ((n : ℕ) × more n × IsBehind es n m))
+ReachesMore es old new more = (m : ℕ)
+    → Reaches (starts_of es) new m ↔ (Reaches (starts_of es) old m ⊎ ((n : ℕ) × more n × IsBehind es n m))
 
 -- what the fronts have once the runs from number r on are done: these members, the parents of what begins those runs, and nothing but the ancestry
 pub record IsReached (es : List GraphEntry) (F G : List (List ℕ)) (r : ℕ) (ends : List ℕ) : Type 0 where
   pub fits : AreEnds es ends
   pub members : (n : ℕ) (v : List ℕ) → IsNumberOf es v n → Contains G v → Reaches (starts_of es) ends n
-  pub closed : (k s m : ℕ) → r ≤ k → slice_get (starts_of es) k ≡ Some s → Reaches (starts_of es) ends s → IsParentNumber es s m → Reaches (starts_of es) ends m
+  pub closed : (k s m : ℕ) → r ≤ k → slice_get (starts_of es) k ≡ Some s → Reaches (starts_of es) ends s
+      → IsParentNumber es s m → Reaches (starts_of es) ends m
   pub within : (n : ℕ) (v : List ℕ) → IsNumberOf es v n → Reaches (starts_of es) ends n → IsAncestor es F v
 
 -- marked are exactly the numbers in the fronts of the runs below r

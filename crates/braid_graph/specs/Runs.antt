@@ -14,7 +14,8 @@ goes_on (Some v) (w ∷ x ∷ ws) = false
 -- the numbers of the entries whose parents are not the one entry before them, where the first entry has number n
 abbrev pub starts_from : ℕ → Option (List ℕ) → List GraphEntry → List ℕ
 starts_from n before [] = []
-starts_from n before (e ∷ es) = if goes_on before e.parents then starts_from (n + 1) (Some e.id) es else n ∷ starts_from (n + 1) (Some e.id) es
+starts_from n before (e ∷ es) = if goes_on before e.parents then starts_from (n + 1) (Some e.id) es
+    else n ∷ starts_from (n + 1) (Some e.id) es
 
 -- the arrival numbers of the entries whose parents are not the one entry before them: each begins a run
 abbrev pub starts_of : List GraphEntry → List ℕ

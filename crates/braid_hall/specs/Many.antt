@@ -12,7 +12,8 @@ pub record AreAway {E : Type 0} (hall : TableId) (root : PassView E) (passes : L
   pub same_hall : root.hall ≡ hall
   pub first : root.number ≡ 0
   pub idle : root.held ≡ false
-  pub each : (k : ℕ) (p : PassView E) → get_elem? passes k ≡ some p → (p.hall ≡ hall) × (p.held ≡ false) × (p.number ≡ k + 1) × Contains root.away (k + 1)
+  pub each : (k : ℕ) (p : PassView E) → get_elem? passes k ≡ some p
+      → (p.hall ≡ hall) × (p.held ≡ false) × (p.number ≡ k + 1) × Contains root.away (k + 1)
   pub out : (n : ℕ) → Contains root.away n → (0 < n) × (n ≤ length passes)
 
 -- a pass is in no turn, and has the hall, the number and the passes away that it had
@@ -33,7 +34,8 @@ pub record JoinsAll {E : Type 0} (p : PassView E) (passes : List (PassView E)) (
   pub kept : q ≡ record p { seen = q.seen; away = q.away; turns = q.turns; look = q.look; ended = q.ended }
 
 -- the passes that a pass split off at once: this many, each with what the pass had seen
-pub record SplitsAll {E : Type 0} (hall : TableId) (p : PassView E) (count : ℕ) (q : PassView E) (passes : List (PassView E)) : Type 0 where
+pub record SplitsAll {E : Type 0} (hall : TableId) (p : PassView E) (count : ℕ) (q : PassView E)
+    (passes : List (PassView E)) : Type 0 where
   pub away : AreAway hall q passes
   pub many : length passes ≡ count
   pub made : q.made ≡ count
@@ -41,7 +43,8 @@ pub record SplitsAll {E : Type 0} (hall : TableId) (p : PassView E) (count : ℕ
   pub kept : q ≡ record p { made = q.made; away = q.away }
 
 -- the history of a closed book: it begins with what each pass had seen, and each of its entries is known by its pass
-pub record IsClosed {E : Type 0} (by : E → ℕ) (p : PassView E) (passes : List (PassView E)) (history : List E) : Type 0 where
+pub record IsClosed {E : Type 0} (by : E → ℕ) (p : PassView E) (passes : List (PassView E))
+    (history : List E) : Type 0 where
   pub last : PassView E
   pub joins_all : JoinsAll p passes last
   pub seen : history ≡ last.seen

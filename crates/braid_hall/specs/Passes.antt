@@ -73,7 +73,8 @@ pub record IsBetweenCalls {B E : Type 0} (me : Me (Option B) (View E)) : Type 0 
   pub busy : me.0.held ≡ true → me.1 ≡ (0, None) ∷ []
 
 -- the fields of a pass agree with its view, and its room is there
-pub record IsPass {B E : Type 0} (number made : ℕ) (me : Me (Option B) (View E)) (marks spare capacity : ℕ) : Type 0 where
+pub record IsPass {B E : Type 0} (number made : ℕ) (me : Me (Option B) (View E))
+    (marks spare capacity : ℕ) : Type 0 where
   pub named : number ≡ me.0.number
   pub counted : made ≡ me.0.made
   pub rests : IsBetweenCalls me
@@ -95,7 +96,8 @@ IfWorn Worn P = P
 
 -- a book's history is what was seen, or has one entry more, with the pass's number
 abbrev pub AddsOne : {B E : Type 0} → (B → List E) → (E → ℕ) → ℕ → List E → B → Type 0
-AddsOne {B} {E} entries by number seen b = (entries b ≡ seen) ⊎ ((e : E) × (entries b ≡ seen ++ e ∷ []) × (by e ≡ number))
+AddsOne {B} {E} entries by number seen b = (entries b ≡ seen)
+    ⊎ ((e : E) × (entries b ≡ seen ++ e ∷ []) × (by e ≡ number))
 
 module _ {E : Type 0} where
   -- the pass from an opening
@@ -140,7 +142,8 @@ module _ {E : Type 0} where
 
   -- a pass after it left a book with this history: what stands behind what it had seen is its own
   abbrev pub left_with : PassView E → List E → PassView E
-  left_with p history = record p { held = false; seen = history; mine = p.mine ++ drop (length p.seen) history; ticket = None }
+  left_with p history =
+      record p { held = false; seen = history; mine = p.mine ++ drop (length p.seen) history; ticket = None }
 
   -- a pass after it split one off
   abbrev pub with_split : PassView E → PassView E
@@ -220,7 +223,8 @@ module _ {E : Type 0} where
 
 -- between steps: a turn was found by a view, with the book b
 abbrev pub Enters : {B E : Type 0} → (B → List E) → (E → ℕ) → View E → View E → B → Type 0
-Enters entries by v w b = (n : ℕ) × (t : ℕ) × (n < 9223372036854775808) × Finds by v (entries b) × (w ≡ after_find (after_draw (after_look v n) t) (entries b))
+Enters entries by v w b = (n : ℕ) × (t : ℕ) × (n < 9223372036854775808) × Finds by v (entries b)
+    × (w ≡ after_find (after_draw (after_look v n) t) (entries b))
 
 -- between steps: a view looked at a number at which no ticket is drawn by it
 abbrev pub LooksLate : {E : Type 0} → View E → View E → Type 0

@@ -33,7 +33,8 @@ pub record IsNumbered {E : Type 0} (added_of : ℕ → List E) (parts : List (Sp
   -- each spent pass has ended, with the entries of its number
   pub gone : (j : ℕ) (r : SplitParts E) → get_elem? parts j ≡ some r → r.0 ≡ false → Contains root.3 (j, added_of j)
   -- each pass that has ended is spent, and stands there with the entries of its number
-  pub only : (j : ℕ) (l : List E) → Contains root.3 (j, l) → ((r : SplitParts E) × (get_elem? parts j ≡ some r) × (r.0 ≡ false)) × (l ≡ added_of j)
+  pub only : (j : ℕ) (l : List E) → Contains root.3 (j, l)
+      → ((r : SplitParts E) × (get_elem? parts j ≡ some r) × (r.0 ≡ false)) × (l ≡ added_of j)
   -- the others have split off none
   pub plain : (j : ℕ) (r : SplitParts E) → get_elem? parts j ≡ some r → 0 < j → (r.1 ≡ 0) × (r.2 ≡ []) × (r.3 ≡ [])
 
@@ -57,14 +58,16 @@ module _ {E : Type 0} (by : E → ℕ) (start : ℕ) (base : List E) where
 
   module _ {B : Type 0} (entries : B → List E) where
     -- the rule for given words and a given history
-    pub record IsKeptAt (ticket serving : ℕ) (history : List E) (homes : List (maybe.Option (Option B))) (views : List (View E)) : Type 0 where
+    pub record IsKeptAt (ticket serving : ℕ) (history : List E) (homes : List (maybe.Option (Option B)))
+        (views : List (View E)) : Type 0 where
       pub slot : length homes ≡ 1
       pub fits : ticket < 18446744073709551616
       pub few : length views ≤ 4294967296
       pub begins : IsPrefix base history
       pub queue : IsQueue ticket serving (map ticket_of views)
       pub each : (j : ℕ) (v : View E) → get_elem? views j ≡ some v → IsKnownOrSpent ticket serving history j v v.live
-      pub at_home : ((j : ℕ) (v : View E) → get_elem? views j ≡ some v → v.held ≡ false) → (b : B) × (get_elem? homes 0 ≡ some (some (Some b))) × (entries b ≡ history)
+      pub at_home : ((j : ℕ) (v : View E) → get_elem? views j ≡ some v → v.held ≡ false)
+          → (b : B) × (get_elem? homes 0 ≡ some (some (Some b))) × (entries b ≡ history)
       pub longest : (j : ℕ) × (v : View E) × (get_elem? views j ≡ some v) × (v.live ≡ true) × (v.seen ≡ history)
       pub others : (n : ℕ) → length views ≤ n → added_by by base n history ≡ []
       pub numbers : IsNumbered (λ n. added_by by base n history) (map split_parts_of views)

@@ -90,7 +90,8 @@ module _ {E : Type 0} where
 
   -- after a book with this history was left
   abbrev pub after_leave : View E → List E → View E
-  after_leave v history = record v { ticket = None; held = false; seen = history; mine = v.mine ++ drop (length v.seen) history }
+  after_leave v history =
+      record v { ticket = None; held = false; seen = history; mine = v.mine ++ drop (length v.seen) history }
 
   -- after one pass more was split off
   abbrev pub after_split : View E → View E

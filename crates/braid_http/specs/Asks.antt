@@ -15,7 +15,8 @@ pub record WireView : Type 0 where
 
 -- nothing was read, or the bytes that were there before the last piece decided nothing
 abbrev pub WasNeeded : List ℕ → List ℕ → Type 0
-WasNeeded held got = (got ≡ []) ⊎ ((front piece : List ℕ) × (got ≡ front ++ piece) × (piece ≢ []) × IsOpen (held ++ front))
+WasNeeded held got = (got ≡ [])
+    ⊎ ((front piece : List ℕ) × (got ≡ front ++ piece) × (piece ≢ []) × IsOpen (held ++ front))
 
 -- bytes were read onto those held, no more than were needed
 pub record Took (held all : List ℕ) (old new : Intake) : Type 0 where

@@ -80,7 +80,8 @@ GoesOn SourceFailed kind = ⊥
 -- body is whole; or it fails.
 abbrev pub ReadsBody : Read → List ℕ → Body → List ℕ → List ℕ → List ℕ → List ℕ → Intake → Intake → Type 0
 ReadsBody (Got n) buf new content b held kept i j =
-    (used : List ℕ) × Draws used held kept i j × HasRead new (content ++ take n buf) (b ++ used) × GoesOn new.state new.kind
+    (used : List ℕ) × Draws used held kept i j × HasRead new (content ++ take n buf) (b ++ used)
+        × GoesOn new.state new.kind
 ReadsBody End buf new content b held kept i j =
     (used : List ℕ) × (new.state ≡ Done) × Stops Done new.kind used held kept i j × HasRead new content (b ++ used)
 ReadsBody Failed buf new content b held kept i j =
@@ -100,28 +101,35 @@ room (Chunk left) len = min len left
 
 -- a reader with another state and place, whose count of faults rose
 abbrev pub failed_at : BodyState → Place → Body → Body
-failed_at state place old = record { kind = old.kind; place = place; line = old.line; state = state; faults = next_count old.faults }
+failed_at state place old =
+    record { kind = old.kind; place = place; line = old.line; state = state; faults = next_count old.faults }
 
 -- what follows what stands around data is taken over: data, for which nothing changes, or the answer
 abbrev pub PassedAs : Result ℕ Read → Passed → Body → Body → Type 0
 PassedAs result (passes.Data left) old new = (result ≡ Ok left) × (new ≡ old)
-PassedAs result passes.Whole old new = (result ≡ Err End) × (new ≡ record { kind = old.kind; place = old.place; line = old.line; state = Done; faults = old.faults })
+PassedAs result passes.Whole old new = (result ≡ Err End)
+    × (new ≡ record { kind = old.kind; place = old.place; line = old.line; state = Done; faults = old.faults })
 PassedAs result passes.Against old new = (result ≡ Err Failed) × (new ≡ failed_at BadChunk old.place old)
 PassedAs result (passes.Torn framing) old new = (result ≡ Err Failed) × (new ≡ failed_at Torn (Around framing) old)
-PassedAs result (passes.Failed framing) old new = (result ≡ Err Failed) × (new ≡ failed_at SourceFailed (Around framing) old)
+PassedAs result (passes.Failed framing) old new = (result ≡ Err Failed)
+    × (new ≡ failed_at SourceFailed (Around framing) old)
 
 -- the end of the source is taken over where data was next
 abbrev pub Ends : Read → Content → Body → Body → Type 0
 Ends result (Plain left) old new = (result ≡ Failed) × (new ≡ failed_at Torn old.place old)
-Ends result Endless old new = (result ≡ End) × (new ≡ record { kind = old.kind; place = old.place; line = old.line; state = Done; faults = old.faults })
+Ends result Endless old new = (result ≡ End)
+    × (new ≡ record { kind = old.kind; place = old.place; line = old.line; state = Done; faults = old.faults })
 Ends result (Chunk left) old new = (result ≡ Failed) × (new ≡ failed_at Torn old.place old)
 
 -- a reader at another place, and whether its body is whole
 abbrev pub at_place : BodyState → Place → Body → Body
-at_place state place old = record { kind = old.kind; place = place; line = old.line; state = state; faults = old.faults }
+at_place state place old =
+    record { kind = old.kind; place = place; line = old.line; state = state; faults = old.faults }
 
 -- that so many bytes of data have come is taken over
 abbrev pub Takes : Content → ℕ → Body → Body → Type 0
-Takes (Plain left) n old new = ((left ≤ n) × (new ≡ at_place Done (In (Plain left)) old)) ⊎ ((n < left) × (new ≡ at_place Open (In (Plain (left - n))) old))
+Takes (Plain left) n old new = ((left ≤ n) × (new ≡ at_place Done (In (Plain left)) old))
+    ⊎ ((n < left) × (new ≡ at_place Open (In (Plain (left - n))) old))
 Takes Endless n old new = new ≡ at_place Open (In Endless) old
-Takes (Chunk left) n old new = ((left ≤ n) × (new ≡ at_place Open (Around Behind) old)) ⊎ ((n < left) × (new ≡ at_place Open (In (Chunk (left - n))) old))
+Takes (Chunk left) n old new = ((left ≤ n) × (new ≡ at_place Open (Around Behind) old))
+    ⊎ ((n < left) × (new ≡ at_place Open (In (Chunk (left - n))) old))

@@ -66,7 +66,8 @@ Comes nexts.Against begun content b = IsAgainst kinds.Chunked content b
 abbrev pub Adds : Added → List ℕ → List ℕ → ℕ → Type 0
 Adds More old new byte = new ≡ old ++ byte ∷ []
 Adds (Size n) old new byte = (new ≡ []) × Announces (old ++ byte ∷ []) n
-Adds Unread old new byte = (new ≡ []) × IsCut (old ++ byte ∷ []) × ((l : ChunkLine) → ¬ (ReadsChunkLine (old ++ byte ∷ []) l []))
+Adds Unread old new byte = (new ≡ []) × IsCut (old ++ byte ∷ [])
+    × ((l : ChunkLine) → ¬ (ReadsChunkLine (old ++ byte ∷ []) l []))
 
 -- how many bytes more can stand before the next data, or before the end
 abbrev pub budget : Framing → List ℕ → ℕ
@@ -87,11 +88,14 @@ Falls old begun nexts.Against after = Unit {0}
 abbrev pub Passes : Passed → Framing → List ℕ → List ℕ → List ℕ → List ℕ → Intake → Intake → Type 0
 Passes (passes.Data left) old begun after held kept i j =
     (used : List ℕ) × Draws used held kept i j
-    × ((content b : List ℕ) → IsAround old begun content b → (after ≡ []) × (0 < left) × IsInChunk left content (b ++ used))
+    × ((content b : List ℕ) → IsAround old begun content b
+        → (after ≡ []) × (0 < left) × IsInChunk left content (b ++ used))
 Passes passes.Whole old begun after held kept i j =
-    (used : List ℕ) × Draws used held kept i j × ((content b : List ℕ) → IsAround old begun content b → IsChunkedBody content (b ++ used))
+    (used : List ℕ) × Draws used held kept i j
+        × ((content b : List ℕ) → IsAround old begun content b → IsChunkedBody content (b ++ used))
 Passes passes.Against old begun after held kept i j =
-    (used : List ℕ) × Draws used held kept i j × ((content b : List ℕ) → IsAround old begun content b → IsAgainst kinds.Chunked content (b ++ used))
+    (used : List ℕ) × Draws used held kept i j
+        × ((content b : List ℕ) → IsAround old begun content b → IsAgainst kinds.Chunked content (b ++ used))
 Passes (passes.Torn new) old begun after held kept i j =
     (used : List ℕ) × DrawsToEnd used held kept i j
     × ((content b : List ℕ) → IsAround old begun content b → IsAround new after content (b ++ used))

@@ -61,9 +61,11 @@ pub data Close : Type 0 where
 -- that number; data that CRLF does not follow; the last chunk and 16,384 bytes in which no trailer ends.
 pub data Closes (most total : ℕ) (line more : List ℕ) : Close → Type 0 where
   last : Announces line 0 → IsTrailer more → Closes most total line more done
-  unread : IsCut line → ((l : ChunkLine) → ¬ (ReadsChunkLine line l [])) → more ≡ [] → Closes most total line more bad_chunk
+  unread : IsCut line → ((l : ChunkLine) → ¬ (ReadsChunkLine line l [])) → more ≡ []
+      → Closes most total line more bad_chunk
   over : (n : ℕ) → Announces line n → 0 < n → most < total + n → more ≡ [] → Closes most total line more too_long
-  departs : (content end : List ℕ) → Announces line (length content) → 0 < length content → total + length content ≤ most → more ≡ content ++ end → Departs end → Closes most total line more bad_chunk
+  departs : (content end : List ℕ) → Announces line (length content) → 0 < length content
+      → total + length content ≤ most → more ≡ content ++ end → Departs end → Closes most total line more bad_chunk
   long_trailer : Announces line 0 → length more ≡ 16_384 → HasNoBlock more → Closes most total line more bad_chunk
 
 -- With the last byte of b a body of at most `most` bytes of data is decided, after these chunks.

@@ -42,4 +42,5 @@ pub record Requests (bytes : List ℕ) (qs : List Request) (tail : Tail) : Type 
 
 -- bytes are cut in one way
 abbrev pub OneCut : Type 0
-OneCut = (bytes : List ℕ) (qs ps : List Request) (tail end : Tail) → Requests bytes qs tail → Requests bytes ps end → (qs ≡ ps) × (tail ≡ end)
+OneCut = (bytes : List ℕ) (qs ps : List Request) (tail end : Tail) → Requests bytes qs tail → Requests bytes ps end
+    → (qs ≡ ps) × (tail ≡ end)

@@ -36,7 +36,8 @@ framing_of (l ∷ ls) (c ∷ cs) = No BothLengths
 -- by the minor version and the fields of a request head
 abbrev pub framing : ℕ → Entries FieldValue → Framing
 framing minor fields =
-    if minor == 0 then No Version else framing_of (get_all fields (codes "content-length")) (get_all fields (codes "transfer-encoding"))
+    if minor == 0 then No Version
+        else framing_of (get_all fields (codes "content-length")) (get_all fields (codes "transfer-encoding"))
 
 -- a byte before the first of parts
 abbrev pub before_parts : ℕ → List (List ℕ) → List (List ℕ)
@@ -54,4 +55,5 @@ is_close part = str_eq_ignore_ascii_case (trimmed part) (codes "close")
 
 -- some part of some `Connection` field is `close`
 unfoldable pub closes : Entries FieldValue → Bool
-closes fields = list_any (λ (v : FieldValue). list_any is_close (parts_of v.bytes)) (get_all fields (codes "connection"))
+closes fields =
+    list_any (λ (v : FieldValue). list_any is_close (parts_of v.bytes)) (get_all fields (codes "connection"))

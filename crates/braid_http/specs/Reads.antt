@@ -10,5 +10,6 @@ abbrev pub Grows : More → List ℕ → List ℕ → Intake → Intake → Type
 Grows Got held kept old new = (piece : List ℕ) × (piece ≢ []) × (kept ≡ held ++ piece) × Moves piece old new
 Grows End held kept old new = (kept ≡ held) × (new ≡ old) × IsAtEnd old.left
 Grows Failed held kept old new =
-    (kept ≡ held) × (new.taken ≡ old.taken) × (new.left ≡ old.left) × (old.faults ≤ new.faults) × Rose old.faults new.faults
+    (kept ≡ held) × (new.taken ≡ old.taken) × (new.left ≡ old.left) × (old.faults ≤ new.faults)
+        × Rose old.faults new.faults
 Grows Memory held kept old new = (kept ≡ held) × (new ≡ old)

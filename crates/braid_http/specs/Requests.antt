@@ -15,7 +15,8 @@ use Rattle.braid_http.specs.Chunks.{Chunk, EndsChunked, IsChunked, bad_chunk, to
 -- the request of a head and its body
 abbrev pub request_of : RequestHead → List ℕ → Request
 request_of h content =
-    record { method = h.method; target = h.target; fields = fields_of h.fields; close = closes (fields_of h.fields); body = content }
+    record { method = h.method; target = h.target; fields = fields_of h.fields; close =
+        closes (fields_of h.fields); body = content }
 
 -- the head is read as h, has at most 64 lines between its first line and the empty one, and frames its body so
 pub record Says (t : HeadText) (h : RequestHead) (f : Framing) : Type 0 where
@@ -35,12 +36,18 @@ pub data Answer : Type 0 where
 pub data Decides : Answer → List ℕ → Type 0 where
   long_head : (b : List ℕ) → length b ≡ 16_384 → HasNoHead b → Decides (refused LongHead) b
   many_fields : (b : List ℕ) (t : HeadText) → IsHead 16_384 b t → 65 < length t.full → Decides (refused ManyFields) b
-  bad_head : (b : List ℕ) (t : HeadText) → IsHead 16_384 b t → length t.full ≤ 65 → ((h : RequestHead) → ¬ (IsWhole (head_bytes t) h)) → Decides (refused BadHead) b
-  by_fields : (b : List ℕ) (t : HeadText) (h : RequestHead) (f : Refusal) → IsHead 16_384 b t → Says t h (No f) → Decides (refused f) b
-  whole : (b head content : List ℕ) (t : HeadText) (h : RequestHead) → IsHead 16_384 head t → Says t h (Body (length content)) → b ≡ head ++ content → Decides (asked (request_of h content)) b
-  chunked : (b head body content : List ℕ) (t : HeadText) (h : RequestHead) → IsHead 16_384 head t → Says t h Chunks → IsChunked 2_097_152 content body → b ≡ head ++ body → Decides (asked (request_of h content)) b
-  bad_chunks : (b head body : List ℕ) (t : HeadText) (h : RequestHead) (cs : List Chunk) → IsHead 16_384 head t → Says t h Chunks → EndsChunked 2_097_152 cs bad_chunk body → b ≡ head ++ body → Decides (refused BadChunk) b
-  long_chunks : (b head body : List ℕ) (t : HeadText) (h : RequestHead) (cs : List Chunk) → IsHead 16_384 head t → Says t h Chunks → EndsChunked 2_097_152 cs too_long body → b ≡ head ++ body → Decides (refused TooLong) b
+  bad_head : (b : List ℕ) (t : HeadText) → IsHead 16_384 b t → length t.full ≤ 65
+      → ((h : RequestHead) → ¬ (IsWhole (head_bytes t) h)) → Decides (refused BadHead) b
+  by_fields : (b : List ℕ) (t : HeadText) (h : RequestHead) (f : Refusal) → IsHead 16_384 b t → Says t h (No f)
+      → Decides (refused f) b
+  whole : (b head content : List ℕ) (t : HeadText) (h : RequestHead) → IsHead 16_384 head t
+      → Says t h (Body (length content)) → b ≡ head ++ content → Decides (asked (request_of h content)) b
+  chunked : (b head body content : List ℕ) (t : HeadText) (h : RequestHead) → IsHead 16_384 head t → Says t h Chunks
+      → IsChunked 2_097_152 content body → b ≡ head ++ body → Decides (asked (request_of h content)) b
+  bad_chunks : (b head body : List ℕ) (t : HeadText) (h : RequestHead) (cs : List Chunk) → IsHead 16_384 head t
+      → Says t h Chunks → EndsChunked 2_097_152 cs bad_chunk body → b ≡ head ++ body → Decides (refused BadChunk) b
+  long_chunks : (b head body : List ℕ) (t : HeadText) (h : RequestHead) (cs : List Chunk) → IsHead 16_384 head t
+      → Says t h Chunks → EndsChunked 2_097_152 cs too_long body → b ≡ head ++ body → Decides (refused TooLong) b
 
 -- a front of the bytes decides the answer, and these are behind it
 pub record IsDecided (x : Answer) (bytes rest : List ℕ) : Type 0 where
@@ -58,7 +65,8 @@ OneAnswer = (x y : Answer) (b d r s : List ℕ) → Decides x b → Decides y d 
 
 -- what is decided stays decided, whatever bytes follow
 abbrev pub StaysDecided : Type 0
-StaysDecided = (x : Answer) (bytes rest more : List ℕ) → IsDecided x bytes rest → IsDecided x (bytes ++ more) (rest ++ more)
+StaysDecided = (x : Answer) (bytes rest more : List ℕ) → IsDecided x bytes rest
+    → IsDecided x (bytes ++ more) (rest ++ more)
 
 -- at most 543,200,000 bytes belong to a request or stand up to the byte that shows its refusal
 abbrev pub FewBytes : Type 0

@@ -40,7 +40,8 @@ kind_for status (Err f) = Err f
 -- by the status and the fields of a reply's head
 abbrev pub kind_of : ℕ → Entries FieldValue → Result BodyKind Refusal
 kind_of status fields =
-    kind_for status (kind_by_values (get_all fields (codes "content-length")) (get_all fields (codes "transfer-encoding")))
+    kind_for status
+        (kind_by_values (get_all fields (codes "content-length")) (get_all fields (codes "transfer-encoding")))
 
 -- the bytes are exactly the response head h, as `httparse` reads it by default with room for 64 fields; its status is 100
 -- at least, and no field's name has more than 65,535 bytes, which is all that `http` and `http_header` refuse beside
@@ -70,10 +71,14 @@ pub data ReplyAnswer : Type 0 where
 -- that is not read; a head whose fields are refused; a head.
 pub data DecidesReply : ReplyAnswer → List ℕ → Type 0 where
   long_head : (b : List ℕ) → length b ≡ 524_288 → HasNoHead b → DecidesReply (refused LongHead) b
-  many_fields : (b : List ℕ) (t : HeadText) → IsHead 524_288 b t → 65 < length t.full → DecidesReply (refused ManyFields) b
-  bad_head : (b : List ℕ) (t : HeadText) → IsHead 524_288 b t → length t.full ≤ 65 → ((h : ResponseHead) → ¬ (IsWholeResponse (head_bytes t) h)) → DecidesReply (refused BadHead) b
-  by_fields : (b : List ℕ) (t : HeadText) (h : ResponseHead) (f : Refusal) → IsHead 524_288 b t → SaysReply t h (Err f) → DecidesReply (refused f) b
-  head : (b : List ℕ) (t : HeadText) (h : ResponseHead) (kind : BodyKind) → IsHead 524_288 b t → SaysReply t h (Ok kind) → DecidesReply (replied (reply_head_of h kind)) b
+  many_fields : (b : List ℕ) (t : HeadText) → IsHead 524_288 b t → 65 < length t.full
+      → DecidesReply (refused ManyFields) b
+  bad_head : (b : List ℕ) (t : HeadText) → IsHead 524_288 b t → length t.full ≤ 65
+      → ((h : ResponseHead) → ¬ (IsWholeResponse (head_bytes t) h)) → DecidesReply (refused BadHead) b
+  by_fields : (b : List ℕ) (t : HeadText) (h : ResponseHead) (f : Refusal) → IsHead 524_288 b t → SaysReply t h (Err f)
+      → DecidesReply (refused f) b
+  head : (b : List ℕ) (t : HeadText) (h : ResponseHead) (kind : BodyKind) → IsHead 524_288 b t → SaysReply t h (Ok kind)
+      → DecidesReply (replied (reply_head_of h kind)) b
 
 -- a front of the bytes decides the answer, and these are behind it
 pub record IsReplyDecided (x : ReplyAnswer) (bytes rest : List ℕ) : Type 0 where
@@ -93,4 +98,5 @@ OneReply =
 -- what is decided of a reply stays decided, whatever bytes follow
 abbrev pub ReplyStaysDecided : Type 0
 ReplyStaysDecided =
-    (x : ReplyAnswer) (bytes rest more : List ℕ) → IsReplyDecided x bytes rest → IsReplyDecided x (bytes ++ more) (rest ++ more)
+    (x : ReplyAnswer) (bytes rest more : List ℕ) → IsReplyDecided x bytes rest
+        → IsReplyDecided x (bytes ++ more) (rest ++ more)

@@ -54,7 +54,8 @@ IsAfter (Trailer look) passed out = IsInTrailer passed out
 -- no front of the bytes decides a body of at most `most` bytes of data, behind chunks with `total`
 abbrev pub OpenAfter : ℕ → ℕ → List ℕ → Type 0
 OpenAfter most total bytes =
-    (ds : List Chunk) (k : Close) (l m rest : List ℕ) → AllByRecursion IsChunk ds → total + length (chunk_data ds) ≤ most
+    (ds : List Chunk) (k : Close) (l m rest : List ℕ) → AllByRecursion IsChunk ds
+        → total + length (chunk_data ds) ≤ most
     → Closes most (total + length (chunk_data ds)) l m k → bytes ≡ flat_map print_chunk ds ++ ((l ++ m) ++ rest) → ⊥
 
 -- the bytes begin with some that are against a body
@@ -67,8 +68,10 @@ pub record IsAgainst (close : Close) (bytes : List ℕ) : Type 0 where
 
 -- what a step leaves, where `passed` stands before the bytes
 abbrev pub Leaves : Fed → List ℕ → List ℕ → List ℕ → List ℕ → Type 0
-Leaves (Passed n place) passed bytes old new = (0 < n) × (n ≤ length bytes) × IsAfter place (passed ++ take n bytes) new × IsPlace place (drop n bytes)
-Leaves (Open place) passed bytes old new = OpenAfter 2_097_152 0 (passed ++ bytes) × (length bytes < 16_384) × (new ≡ old) × IsAfter place passed new × IsPlace place bytes
+Leaves (Passed n place) passed bytes old new = (0 < n) × (n ≤ length bytes) × IsAfter place (passed ++ take n bytes) new
+    × IsPlace place (drop n bytes)
+Leaves (Open place) passed bytes old new = OpenAfter 2_097_152 0 (passed ++ bytes) × (length bytes < 16_384)
+    × (new ≡ old) × IsAfter place passed new × IsPlace place bytes
 Leaves (Done n) passed bytes old new = (n ≤ length bytes) × IsChunked 2_097_152 new (passed ++ take n bytes)
 Leaves (Refused BadChunk) passed bytes old new = IsAgainst bad_chunk (passed ++ bytes)
 Leaves (Refused TooLong) passed bytes old new = IsAgainst too_long (passed ++ bytes)

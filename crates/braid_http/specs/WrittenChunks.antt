@@ -6,4 +6,5 @@ use Rattle.braid_http.specs.Bodies.{IsChunkedBody}
 -- chunks as they are written, and the last one, are a chunked body of the pieces' data
 abbrev pub WritesChunked : Type 0
 WritesChunked =
-    (pieces : List (List ℕ)) (b : List ℕ) → AreWrittenChunks pieces b → IsChunkedBody (flat_map (λ piece. piece) pieces) (b ++ last_chunk)
+    (pieces : List (List ℕ)) (b : List ℕ) → AreWrittenChunks pieces b
+        → IsChunkedBody (flat_map (λ piece. piece) pieces) (b ++ last_chunk)

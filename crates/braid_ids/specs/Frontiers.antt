@@ -18,7 +18,8 @@ pub record IsFrontier (ids : List (List ℕ)) : Type 0 where
 -- an identifier put among others in rising order, once
 abbrev pub with_id : List ℕ → List (List ℕ) → List (List ℕ)
 with_id v [] = v ∷ []
-with_id v (w ∷ ws) = if is_lt (id_cmp v w) then v ∷ w ∷ ws else (if is_eq (id_cmp v w) then w ∷ ws else w ∷ with_id v ws)
+with_id v (w ∷ ws) = if is_lt (id_cmp v w) then v ∷ w ∷ ws
+    else (if is_eq (id_cmp v w) then w ∷ ws else w ∷ with_id v ws)
 
 -- identifiers in rising order, each once
 abbrev pub rising_ids : List (List ℕ) → List (List ℕ)

@@ -29,7 +29,8 @@ merged p q = record { from = min p.from q.from; to = max p.to q.to }
 -- rising ranges with one more: it becomes one with those that it overlaps or touches
 abbrev pub with_piece : Piece → List Piece → List Piece
 with_piece m [] = m ∷ []
-with_piece m (p ∷ ps) = if nat_lt p.to m.from then p ∷ with_piece m ps else (if nat_lt m.to p.from then m ∷ with_piece p ps else with_piece (merged m p) ps)
+with_piece m (p ∷ ps) = if nat_lt p.to m.from then p ∷ with_piece m ps
+    else (if nat_lt m.to p.from then m ∷ with_piece p ps else with_piece (merged m p) ps)
 
 -- the range begins before the last of the ranges
 abbrev pub BeginsBeforeLast : List Piece → Piece → Type 0

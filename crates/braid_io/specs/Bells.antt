@@ -13,7 +13,8 @@ pub record Ringing : Type 0 where
 
 -- One wait: it answers Again only where one is left, which is then used up; or it ends, only where none is left.
 abbrev pub Waits : Rang → Ringing → Ringing → Type 0
-Waits Again old new = HasOne old.answers × (new ≡ record old { answers = one_fewer old.answers; agains = next_count old.agains })
+Waits Again old new = HasOne old.answers
+    × (new ≡ record old { answers = one_fewer old.answers; agains = next_count old.agains })
 Waits End old new = HasNone old.answers × (new ≡ old)
 
 -- One ring: the count of rings rises, and nothing else.

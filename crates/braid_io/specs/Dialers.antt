@@ -29,14 +29,17 @@ pub record Reaches (server : List ℕ) (intake : Intake) (outflow : Outflow) (ol
 -- One dial: it gives a new link; or it fails, where the count of faults rises. For want of memory all stays as it was.
 abbrev pub Dials : {K : Type 0} → (K → Intake) → (K → Outflow) → List ℕ → Dialed K → Dialing → Dialing → Type 0
 Dials intake outflow server (Up link) old new = Reaches server (intake link) (outflow link) old new
-Dials intake outflow server Failed old new = (new ≡ record old { faults = new.faults }) × (old.faults ≤ new.faults) × Rose old.faults new.faults
+Dials intake outflow server Failed old new = (new ≡ record old { faults = new.faults }) × (old.faults ≤ new.faults)
+    × Rose old.faults new.faults
 Dials intake outflow server Memory old new = new ≡ old
 
 -- A link was hung up: it joins the talks with what it tells and with the last of the servers that were up, which is
 -- taken off, and its counts of faults are added to the sums.
 pub record HangsUp (intake : Intake) (outflow : Outflow) (old new : Dialing) : Type 0 where
-  pub servers : (before : Option (List (List ℕ))) (server : List ℕ) → old.servers ≡ with_last before server → new.servers ≡ before
-  pub talks : (before : Option (List (List ℕ))) (server : List ℕ) → old.servers ≡ with_last before server → new.talks ≡ with_last old.talks (record { server = server; intake = intake; outflow = outflow })
+  pub servers : (before : Option (List (List ℕ))) (server : List ℕ) → old.servers ≡ with_last before server
+      → new.servers ≡ before
+  pub talks : (before : Option (List (List ℕ))) (server : List ℕ) → old.servers ≡ with_last before server
+      → new.talks ≡ with_last old.talks (record { server = server; intake = intake; outflow = outflow })
   pub faults : new.faults ≡ old.faults
   pub link_read_faults : new.link_read_faults ≡ joint_count old.link_read_faults intake.faults
   pub link_write_faults : new.link_write_faults ≡ joint_count old.link_write_faults outflow.faults

@@ -36,7 +36,8 @@ pub record Admits (intake : Intake) (outflow : Outflow) (old new : Doorway) : Ty
 abbrev pub Accepts : {K : Type 0} → (K → Intake) → (K → Outflow) → Came K → Doorway → Doorway → Type 0
 Accepts intake outflow (Up link) old new = Admits (intake link) (outflow link) old new
 Accepts intake outflow End old new = HasNone old.left × (new ≡ old)
-Accepts intake outflow Failed old new = (new ≡ record old { faults = new.faults }) × (old.faults ≤ new.faults) × Rose old.faults new.faults
+Accepts intake outflow Failed old new = (new ≡ record old { faults = new.faults }) × (old.faults ≤ new.faults)
+    × Rose old.faults new.faults
 
 -- A link was put back: it joins those served with what it tells, one link fewer is up, and its counts of faults are
 -- added to the sums.
@@ -69,6 +70,8 @@ pub record IsNewPair (door : Doorway) (bell : Ringing) : Type 0 where
 -- One opening: it gives a new door and a new bell for each worker; or it fails, where the count of faults rises. Both are
 -- noted with what was asked for. For want of memory all stays as it was.
 abbrev pub Opens : {D L : Type 0} → (D → Doorway) → (L → Ringing) → Asked → Opened D L → Porting → Porting → Type 0
-Opens door bell asked (Open pairs) old new = (length pairs.items ≡ asked.workers) × All (λ p. IsNewPair (door p.0) (bell p.1)) pairs.items × (new ≡ record old { asked = with_last old.asked asked })
-Opens door bell asked NotOpened old new = (new.asked ≡ with_last old.asked asked) × (old.faults ≤ new.faults) × Rose old.faults new.faults
+Opens door bell asked (Open pairs) old new = (length pairs.items ≡ asked.workers)
+    × All (λ p. IsNewPair (door p.0) (bell p.1)) pairs.items × (new ≡ record old { asked = with_last old.asked asked })
+Opens door bell asked NotOpened old new = (new.asked ≡ with_last old.asked asked) × (old.faults ≤ new.faults)
+    × Rose old.faults new.faults
 Opens door bell asked NoMemory old new = new ≡ old

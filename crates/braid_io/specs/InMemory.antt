@@ -48,13 +48,16 @@ pub record Gives (n : ℕ) (buf : List ℕ) (old new : MemIntake) : Type 0 where
   pub some : 0 < length old.left
   pub count : n ≡ min (min old.piece (length old.left)) (length buf)
   pub bytes : take n buf ≡ take n old.left
-  pub moved : new ≡ record old { taken = old.taken ++ take n old.left; left = drop n old.left; calls = next_count old.calls }
+  pub moved : new
+      ≡ record old { taken = old.taken ++ take n old.left; left = drop n old.left; calls = next_count old.calls }
 
 -- One read of a source in memory. It fails exactly where its number is listed, and then only the counts change.
 -- Else it ends exactly where nothing is left, and gives the next piece where something is.
 abbrev pub MemReads : Read → List ℕ → MemIntake → MemIntake → Type 0
-MemReads Failed buf old new = Contains old.fails old.calls × (new ≡ record old { calls = next_count old.calls; faults = next_count old.faults })
-MemReads End buf old new = ¬ Contains old.fails old.calls × (old.left ≡ []) × (new ≡ record old { calls = next_count old.calls })
+MemReads Failed buf old new = Contains old.fails old.calls
+    × (new ≡ record old { calls = next_count old.calls; faults = next_count old.faults })
+MemReads End buf old new = ¬ Contains old.fails old.calls × (old.left ≡ [])
+    × (new ≡ record old { calls = next_count old.calls })
 MemReads (Got n) buf old new = ¬ Contains old.fails old.calls × Gives n buf old new
 
 -- A read gives the first n bytes of what is left: as many as the buffer takes.
@@ -75,12 +78,14 @@ PureReads (Got n) buf old new = GivesFront n buf old new
 pub record Takes (n : ℕ) (piece : List ℕ) (old new : MemOutflow) : Type 0 where
   pub some : 0 < old.room
   pub count : n ≡ min (length piece) old.room
-  pub moved : new ≡ record old { written = old.written ++ take n piece; room = old.room - n; calls = next_count old.calls }
+  pub moved : new
+      ≡ record old { written = old.written ++ take n piece; room = old.room - n; calls = next_count old.calls }
 
 -- One write to a sink in memory. It fails exactly where its number is listed or no room is left, and then only the
 -- counts change. Else it takes what it has room for.
 abbrev pub MemWrites : Wrote → List ℕ → MemOutflow → MemOutflow → Type 0
-MemWrites NotTaken piece old new = (Contains old.fails old.calls ⊎ (old.room ≡ 0)) × (new ≡ record old { calls = next_count old.calls; faults = next_count old.faults })
+MemWrites NotTaken piece old new = (Contains old.fails old.calls ⊎ (old.room ≡ 0))
+    × (new ≡ record old { calls = next_count old.calls; faults = next_count old.faults })
 MemWrites (Took n) piece old new = ¬ Contains old.fails old.calls × Takes n piece old new
 
 -- A link in memory: the bytes given and left, the most that one read gives, the bytes taken, the room left in bytes,
@@ -98,7 +103,8 @@ pub record MemTalk : Type 0 where
 
 -- The source's side of a link in memory.
 abbrev pub source_side : MemTalk → MemIntake
-source_side s = record { taken = s.taken; left = s.left; piece = s.piece; fails = s.fails; calls = s.calls; faults = s.read_faults }
+source_side s =
+    record { taken = s.taken; left = s.left; piece = s.piece; fails = s.fails; calls = s.calls; faults = s.read_faults }
 
 -- The sink's side of a link in memory.
 abbrev pub sink_side : MemTalk → MemOutflow

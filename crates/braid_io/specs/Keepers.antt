@@ -41,12 +41,14 @@ KeepsOthers name (Some old) (Some new) = (other : List ℕ) → other ≢ name �
 abbrev pub Loads : List ℕ → Loaded → Keeping → Keeping → Type 0
 Loads name (Bytes bytes) old new = Holds old.kept name (Some bytes) × (new ≡ old)
 Loads name Nothing old new = Holds old.kept name None × (new ≡ old)
-Loads name Failed old new = (new ≡ record old { load_faults = new.load_faults }) × (old.load_faults ≤ new.load_faults) × Rose old.load_faults new.load_faults
+Loads name Failed old new = (new ≡ record old { load_faults = new.load_faults }) × (old.load_faults ≤ new.load_faults)
+    × Rose old.load_faults new.load_faults
 Loads name Memory old new = new ≡ old
 
 -- One save: the bytes then stand under the name, and all else stays; or it fails, where the count of failed saves rises
 -- and the other names stay. For want of memory all stays as it was.
 abbrev pub Saves : List ℕ → List ℕ → Saved → Keeping → Keeping → Type 0
 Saves name bytes Done old new = new ≡ record old { kept = with_kept old.kept name bytes }
-Saves name bytes NotSaved old new = KeepsOthers name old.kept new.kept × (new.load_faults ≡ old.load_faults) × (old.save_faults ≤ new.save_faults) × Rose old.save_faults new.save_faults
+Saves name bytes NotSaved old new = KeepsOthers name old.kept new.kept × (new.load_faults ≡ old.load_faults)
+    × (old.save_faults ≤ new.save_faults) × Rose old.save_faults new.save_faults
 Saves name bytes NoMemory old new = new ≡ old

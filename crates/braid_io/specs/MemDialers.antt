@@ -38,8 +38,10 @@ dialing_of d = record {
 -- counts change. Else it gives the first of the links left. For want of memory all stays as it was.
 abbrev pub MemDials : List ℕ → Dialed MemTalk → MemDialing → MemDialing → Type 0
 MemDials server Memory old new = new ≡ old
-MemDials server Failed old new = (Contains old.fails old.calls ⊎ (old.left ≡ [])) × (new ≡ record old { calls = next_count old.calls; faults = next_count old.faults })
-MemDials server (Up link) old new = ¬ Contains old.fails old.calls × (old.left ≡ link ∷ new.left) × (new ≡ record old { servers = old.servers ++ server ∷ []; left = new.left; calls = next_count old.calls })
+MemDials server Failed old new = (Contains old.fails old.calls ⊎ (old.left ≡ []))
+    × (new ≡ record old { calls = next_count old.calls; faults = next_count old.faults })
+MemDials server (Up link) old new = ¬ Contains old.fails old.calls × (old.left ≡ link ∷ new.left)
+    × (new ≡ record old { servers = old.servers ++ server ∷ []; left = new.left; calls = next_count old.calls })
 
 -- A link that is hung up at a dialer in memory stands last among the talks, with the last of the servers that were up.
 pub record MemHangsUp (link : MemTalk) (old new : MemDialing) : Type 0 where

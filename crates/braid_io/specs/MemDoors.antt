@@ -59,9 +59,12 @@ doorway_of d = record {
 -- One accept of a door in memory. It fails exactly where its number is listed, and then only the counts change. Else it
 -- ends exactly where no link is left, and gives the first of those left where one is.
 abbrev pub MemAccepts : Came MemTalk → MemDoorway → MemDoorway → Type 0
-MemAccepts Failed old new = Contains old.fails old.calls × (new ≡ record old { calls = next_count old.calls; faults = next_count old.faults })
-MemAccepts End old new = ¬ Contains old.fails old.calls × (old.left ≡ []) × (new ≡ record old { calls = next_count old.calls })
-MemAccepts (Up link) old new = ¬ Contains old.fails old.calls × (old.left ≡ link ∷ new.left) × (new ≡ record old { left = new.left; up = old.up + 1; calls = next_count old.calls })
+MemAccepts Failed old new = Contains old.fails old.calls
+    × (new ≡ record old { calls = next_count old.calls; faults = next_count old.faults })
+MemAccepts End old new = ¬ Contains old.fails old.calls × (old.left ≡ [])
+    × (new ≡ record old { calls = next_count old.calls })
+MemAccepts (Up link) old new = ¬ Contains old.fails old.calls × (old.left ≡ link ∷ new.left)
+    × (new ≡ record old { left = new.left; up = old.up + 1; calls = next_count old.calls })
 
 -- A link that is put back into a door in memory stands last among those served.
 abbrev pub MemPutsBack : MemTalk → MemDoorway → MemDoorway → Type 0
@@ -93,5 +96,9 @@ porting_of p = record { asked = Some p.asked; faults = p.faults }
 -- workers. Else it gives the first of those left. Both are noted. For want of memory all stays as it was.
 abbrev pub MemOpens : Asked → Opened MemDoorway MemRinging → MemPorting → MemPorting → Type 0
 MemOpens asked NoMemory old new = new ≡ old
-MemOpens asked NotOpened old new = (Contains old.fails old.calls ⊎ (length old.left < asked.workers)) × (new ≡ record old { asked = old.asked ++ asked ∷ []; calls = next_count old.calls; faults = next_count old.faults })
-MemOpens asked (Open pairs) old new = ¬ Contains old.fails old.calls × (old.left ≡ pairs.items ++ new.left) × (length pairs.items ≡ asked.workers) × (new ≡ record old { asked = old.asked ++ asked ∷ []; left = new.left; calls = next_count old.calls })
+MemOpens asked NotOpened old new = (Contains old.fails old.calls ⊎ (length old.left < asked.workers))
+    × (new ≡ record old { asked = old.asked ++ asked ∷ []; calls = next_count old.calls; faults =
+        next_count old.faults })
+MemOpens asked (Open pairs) old new = ¬ Contains old.fails old.calls × (old.left ≡ pairs.items ++ new.left)
+    × (length pairs.items ≡ asked.workers)
+    × (new ≡ record old { asked = old.asked ++ asked ∷ []; left = new.left; calls = next_count old.calls })

@@ -32,13 +32,18 @@ keeping_of k = record { kept = Some (kept_of k); load_faults = k.load_faults; sa
 -- gives the bytes that stand under the name, or says that none do. For want of memory all stays as it was.
 abbrev pub MemLoads : List ℕ → Loaded → MemKeeping → MemKeeping → Type 0
 MemLoads name Memory old new = new ≡ old
-MemLoads name Failed old new = Contains old.fails old.calls × (new ≡ record old { calls = next_count old.calls; load_faults = next_count old.load_faults })
-MemLoads name Nothing old new = ¬ Contains old.fails old.calls × (map.get (kept_of old) name ≡ None) × (new ≡ record old { calls = next_count old.calls })
-MemLoads name (Bytes bytes) old new = ¬ Contains old.fails old.calls × (map.get (kept_of old) name ≡ Some bytes) × (new ≡ record old { calls = next_count old.calls })
+MemLoads name Failed old new = Contains old.fails old.calls
+    × (new ≡ record old { calls = next_count old.calls; load_faults = next_count old.load_faults })
+MemLoads name Nothing old new = ¬ Contains old.fails old.calls × (map.get (kept_of old) name ≡ None)
+    × (new ≡ record old { calls = next_count old.calls })
+MemLoads name (Bytes bytes) old new = ¬ Contains old.fails old.calls × (map.get (kept_of old) name ≡ Some bytes)
+    × (new ≡ record old { calls = next_count old.calls })
 
 -- One save of a keeper in memory. It fails exactly where its number is listed, and then only the counts change. Else the
 -- bytes stand under the name. For want of memory all stays as it was.
 abbrev pub MemSaves : List ℕ → List ℕ → Saved → MemKeeping → MemKeeping → Type 0
 MemSaves name bytes NoMemory old new = new ≡ old
-MemSaves name bytes NotSaved old new = Contains old.fails old.calls × (new ≡ record old { calls = next_count old.calls; save_faults = next_count old.save_faults })
-MemSaves name bytes Done old new = ¬ Contains old.fails old.calls × (new ≡ record old { saved = (name, bytes) ∷ old.saved; calls = next_count old.calls })
+MemSaves name bytes NotSaved old new = Contains old.fails old.calls
+    × (new ≡ record old { calls = next_count old.calls; save_faults = next_count old.save_faults })
+MemSaves name bytes Done old new = ¬ Contains old.fails old.calls
+    × (new ≡ record old { saved = (name, bytes) ∷ old.saved; calls = next_count old.calls })

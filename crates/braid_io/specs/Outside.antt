@@ -89,7 +89,8 @@ pub record Moves (bytes : List ℕ) (old new : Intake) : Type 0 where
 abbrev pub Reads : Read → List ℕ → Intake → Intake → Type 0
 Reads (Got n) buf old new = (0 < n) × (n ≤ length buf) × Moves (take n buf) old new
 Reads End buf old new = (new ≡ old) × IsAtEnd old.left
-Reads Failed buf old new = (new.taken ≡ old.taken) × (new.left ≡ old.left) × (old.faults ≤ new.faults) × Rose old.faults new.faults
+Reads Failed buf old new = (new.taken ≡ old.taken) × (new.left ≡ old.left) × (old.faults ≤ new.faults)
+    × Rose old.faults new.faults
 
 -- A sink took all of these bytes: they stand at the end of what was written, and the count of faults stayed.
 pub record WritesAll (bytes : List ℕ) (old new : Outflow) : Type 0 where

@@ -17,10 +17,12 @@ picked H (n ∷ ns) = with_found (slice_get H n) (picked H ns)
 
 -- the replica whose first `confirmed` arrival numbers are those of the confirmed updates
 abbrev pub replica_in : List ℕ → List UpdateView → List ℕ → ℕ → ReplicaView
-replica_in agent H ns confirmed = record { agent = agent; confirmed = picked H (take confirmed ns); unsent = picked H (drop confirmed ns) }
+replica_in agent H ns confirmed =
+    record { agent = agent; confirmed = picked H (take confirmed ns); unsent = picked H (drop confirmed ns) }
 
 -- the arrival numbers are those of all updates, the replica is sound, a flag says of each number whether it is that of a confirmed update, and there are not too many elements and deletions
-pub record IsKept (agent : List ℕ) (H : List UpdateView) (ns : List ℕ) (confirmed : ℕ) (flags : List Bool) : Type 0 where
+pub record IsKept (agent : List ℕ) (H : List UpdateView) (ns : List ℕ) (confirmed : ℕ)
+    (flags : List Bool) : Type 0 where
   pub legal : IsLegal H
   pub few : length H ≤ 524288
   pub within : (n : ℕ) → Contains ns n → n < length H

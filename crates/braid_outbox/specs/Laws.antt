@@ -64,7 +64,8 @@ IsLearnt (Judged a) = IsTaken a
 -- the update that a subscription carries next, where there is one, is not refused but for want of room
 abbrev pub CarriesWell : Room → List UpdateView → Side → Option Reading → Type 0
 CarriesWell limits H s None = Unit {0}
-CarriesWell limits H s (Some rd) = (u : UpdateView) → slice_get (sent H rd.from) rd.position ≡ Some u → IsLearnt (learn_answer limits (replica_of s) u)
+CarriesWell limits H s (Some rd) = (u : UpdateView) → slice_get (sent H rd.from) rd.position ≡ Some u
+    → IsLearnt (learn_answer limits (replica_of s) u)
 
 -- no update is lost
 abbrev pub LosesNone : ReplicaView → ReplicaView → Type 0

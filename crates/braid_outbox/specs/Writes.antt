@@ -21,7 +21,8 @@ use Rattle.braid_outbox.specs.Replicas.{ReplicaView, all_of, log_of, frontier, g
 
 -- the agent's next update, which has the number after its greatest one
 abbrev pub next_in : List ℕ → List UpdateView → List (List ℕ) → Change → UpdateView
-next_in a us parents change = record { id = agent_name a (1 + greatest_number a us); parents = parents; change = change }
+next_in a us parents change =
+    record { id = agent_name a (1 + greatest_number a us); parents = parents; change = change }
 
 -- 32 members of a frontier: the last unsent update, where there is one, and the least of the others
 abbrev pub merged_of : Option (List ℕ) → List (List ℕ) → List (List ℕ)
@@ -104,7 +105,9 @@ IsWriteFault limits r c (OutOfRange patch len) =
 IsWriteFault limits r c NumbersSpent =
     Fits r c × (2 ^ 64 ≤ last_number r)
 IsWriteFault limits r c (Full which limit) =
-    Fits r c × (last_number r < 2 ^ 64) × ((n : ℕ) × (left : ℕ) × IsOver (write_needs r c) (room_of limits (all_of r)) which n left) × (limit ≡ limit_of limits which)
+    Fits r c × (last_number r < 2 ^ 64)
+        × ((n : ℕ) × (left : ℕ) × IsOver (write_needs r c) (room_of limits (all_of r)) which n left)
+        × (limit ≡ limit_of limits which)
 IsWriteFault limits r c Memory = Unit {0}
 
 -- some pure merges were added, and nothing else; none where the change is not written

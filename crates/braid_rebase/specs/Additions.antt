@@ -60,7 +60,8 @@ without_keys keys S = filter (λ (x : Node Key). not (has_key x.key keys)) S
 
 -- what a new version sees: the nodes that its parents see and its own in reading order, without those that it deletes
 abbrev pub seen_after : ℕ → List ℕ → List (Node Key) → Change → List (Node Key)
-seen_after level id S change = without_keys (deleted_keys S change) (with_nodes key_cmp (added_nodes level id S change) S)
+seen_after level id S change =
+    without_keys (deleted_keys S change) (with_nodes key_cmp (added_nodes level id S change) S)
 
 -- every key on the nodes' paths has a level below this one
 abbrev pub AreUnder : ℕ → List (Node Key) → Type 0
@@ -69,4 +70,5 @@ AreUnder level S = AllByRecursion (λ (y : Node Key). AllByRecursion (λ (b : Ke
 -- the key is that of a seen node from a range's start up to its end
 abbrev pub IsDeletedAt : List (Node Key) → List Patch → Key → Type 0
 IsDeletedAt S rs k =
-    (r : Patch) × (i : ℕ) × (x : Node Key) × Contains rs r × (r.start ≤ i) × (i < r.end) × (slice_get S i ≡ Some x) × (x.key ≡ k)
+    (r : Patch) × (i : ℕ) × (x : Node Key) × Contains rs r × (r.start ≤ i) × (i < r.end) × (slice_get S i ≡ Some x)
+        × (x.key ≡ k)

@@ -17,7 +17,8 @@ use Rattle.braid_rebase.specs.declared.resolving.RebaseFault.{RebaseFault}
 use Rattle.braid_rebase.specs.declared.resolving.RebaseFault.TheVariants.{OutOfRange, Memory}
 
 -- S are the rows that the ancestry of a frontier sees, in their order
-pub record IsSeenAt (es : List GraphEntry) (F : List (List ℕ)) (deletions : List RowDeletion) (rows S : List Row) : Type 0 where
+pub record IsSeenAt (es : List GraphEntry) (F : List (List ℕ)) (deletions : List RowDeletion)
+    (rows S : List Row) : Type 0 where
   pub marks : List Bool
   pub ancestry : MarksAncestry es F marks
   pub seen : S ≡ seen_rows marks deletions rows
@@ -40,7 +41,8 @@ place_before places (suc s) = slice_get places s
 -- the runs of ranges: each range's text behind the place before the range; ordinals go on from n through all ranges
 abbrev pub runs_at : List At → ℕ → List Patch → List Run
 runs_at places n [] = []
-runs_at places n (r ∷ rs) = record { after = place_before places r.start; text = r.text; ordinal = n } ∷ runs_at places (n + length r.text) rs
+runs_at places n (r ∷ rs) =
+    record { after = place_before places r.start; text = r.text; ordinal = n } ∷ runs_at places (n + length r.text) rs
 
 -- the places within ranges: those from each range's start up to its end
 abbrev pub places_at : List At → List Patch → List At
@@ -62,7 +64,8 @@ pub record IsReachIn (S : List Row) (reach : Reach) : Type 0 where
 -- why an update was not resolved: the first joined patch past the seen rows, and how many these are. Memory may come for any update
 abbrev pub IsRebaseFault : List GraphEntry → List RowDeletion → List Row → UpdateView → RebaseFault → Type 0
 IsRebaseFault es deletions rows u (OutOfRange patch len) =
-    (S : List Row) × IsSeenAt es u.parents deletions rows S × (first_past (row_chars S) u.change ≡ Some patch) × (len ≡ length S)
+    (S : List Row) × IsSeenAt es u.parents deletions rows S × (first_past (row_chars S) u.change ≡ Some patch)
+        × (len ≡ length S)
 IsRebaseFault es deletions rows u Memory = Unit {0}
 
 -- why a change has no ranges in a text: the first joined patch past its end, and its length. Memory may come for any change

@@ -68,7 +68,8 @@ PrintsLast book notes status old new =
 
 -- What is left where a port gave these doors and bells: the run ended before its workers began, and they are as they
 -- came; or the workers ran, on a book that is legal.
-pub data ServesPairs {D L : Type 0} (doorway : D → Doorway) (ringing : L → Ringing) (asked : Asked) (given : List (D × L))
+pub data ServesPairs {D L : Type 0} (doorway : D → Doorway) (ringing : L → Ringing) (asked : Asked)
+    (given : List (D × L))
     (served : Served D L) (old new : Outflow) : Type 0 where
   no_work : served.workers ≡ [] → served.doors.items ≡ given
       → BeforeWork (serving_line asked.server) served.status old new served.book
@@ -80,7 +81,8 @@ pub data ServesPairs {D L : Type 0} (doorway : D → Doorway) (ringing : L → R
 
 -- What a run left, by how far it came: its words are no form; there was no memory for the words, or for the port; the
 -- port could not be opened; or it gave doors and bells.
-pub data ServeRuns {D L : Type 0} (doorway : D → Doorway) (ringing : L → Ringing) (words : List (List ℕ)) (served : Served D L)
+pub data ServeRuns {D L : Type 0} (doorway : D → Doorway) (ringing : L → Ringing) (words : List (List ℕ))
+    (served : Served D L)
     (before after : Porting) (old new : Outflow) : Type 0 where
   no_form : ((asked : Asked) → ¬ IsForm words asked) → HasNone served → after ≡ before
       → Prints usage_line Usage served.status old new
@@ -95,7 +97,8 @@ pub data ServeRuns {D L : Type 0} (doorway : D → Doorway) (ringing : L → Rin
       → ServeRuns doorway ringing words served before after old new
 
 -- What a run leaves, by what its workers left: the doors as they are, and where no worker ran, no note and status Memory.
-abbrev pub FinishesWith : {D L : Type 0} → Option (List WorkerNote) → Worked D L → Served D L → Outflow → Outflow → Type 0
+abbrev pub FinishesWith : {D L : Type 0} → Option (List WorkerNote) → Worked D L → Served D L → Outflow → Outflow
+    → Type 0
 FinishesWith None worked served old new = (served.workers ≡ []) × (served.status ≡ Memory) × (new ≡ old)
 FinishesWith (Some notes) worked served old new =
     (served.workers ≡ notes) × IsLegalBook worked.book × PrintsLast worked.book notes served.status old new

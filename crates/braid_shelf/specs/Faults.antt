@@ -20,7 +20,8 @@ IsSign sign = (sign ≡ []) ⊎ (sign ≡ 45 ∷ [])
 
 -- an item begins with `"`, `-`, a digit, a letter, `*` or `?`, and one that is not carried with `:` or `(`
 abbrev pub begins_item : ℕ → Bool
-begins_item byte = byte == 34 || byte == 45 || is_digit byte || begins_token byte || byte == 63 || byte == 58 || byte == 40
+begins_item byte =
+    byte == 34 || byte == 45 || is_digit byte || begins_token byte || byte == 63 || byte == 58 || byte == 40
 
 -- an item that should begin where these bytes do, and does not or breaks off
 pub data IsItemFault : List ℕ → ℕ → ShelfKind → Type 0 where
@@ -45,9 +46,11 @@ pub data IsItemFault : List ℕ → ℕ → ShelfKind → Type 0 where
   no_boolean : (rest : List ℕ) → begins (λ byte. byte == 48 || byte == 49) rest ≡ false
       → IsItemFault (63 ∷ rest) (suc (length rest)) BadItem
   -- a Byte Sequence or an Inner List, at its first byte
-  not_carried : (byte : ℕ) (rest : List ℕ) → (byte ≡ 58) ⊎ (byte ≡ 40) → IsItemFault (byte ∷ rest) (suc (length rest)) NotCarried
+  not_carried : (byte : ℕ) (rest : List ℕ) → (byte ≡ 58) ⊎ (byte ≡ 40)
+      → IsItemFault (byte ∷ rest) (suc (length rest)) NotCarried
   -- any other byte, at that byte
-  no_item : (byte : ℕ) (rest : List ℕ) → begins_item byte ≡ false → IsItemFault (byte ∷ rest) (suc (length rest)) BadItem
+  no_item : (byte : ℕ) (rest : List ℕ) → begins_item byte ≡ false
+      → IsItemFault (byte ∷ rest) (suc (length rest)) BadItem
   -- the end of the value
   ended : IsItemFault [] 0 BadItem
 
@@ -105,7 +108,8 @@ pub data IsParamFault : List ℕ → ℕ → ShelfKind → Type 0 where
 abbrev pub IsParamsFault : List Param → List ℕ → ℕ → ShelfKind → Type 0
 IsParamsFault [] bytes left kind = (more : List ℕ) × (bytes ≡ 59 ∷ more) × IsParamFault more left kind
 IsParamsFault (param ∷ params) bytes left kind =
-    (more between : List ℕ) × (bytes ≡ 59 ∷ more) × TakesParam param more between × IsParamsFault params between left kind
+    (more between : List ℕ) × (bytes ≡ 59 ∷ more) × TakesParam param more between
+        × IsParamsFault params between left kind
 
 -- a member that should begin where these bytes do: a fault within it, or in what follows it
 pub data IsMemberFault : List ℕ → ℕ → ShelfKind → Type 0 where
@@ -114,7 +118,8 @@ pub data IsMemberFault : List ℕ → ℕ → ShelfKind → Type 0 where
       → TakesItem item bytes between → IsParamsFault params between left kind → IsMemberFault bytes left kind
   -- another byte than a comma behind a member, at that byte
   no_comma : (member : Member) (blanks : List ℕ) (byte : ℕ) (rest bytes : List ℕ)
-      → TakesMember member bytes (blanks ++ byte ∷ rest) → Are is_blank blanks → is_blank byte ≡ false → (byte == 44) ≡ false
+      → TakesMember member bytes (blanks ++ byte ∷ rest) → Are is_blank blanks → is_blank byte ≡ false
+      → (byte == 44) ≡ false
       → IsMemberFault bytes (suc (length rest)) MissingComma
   -- a comma that no member follows, at the comma
   no_member : (member : Member) (before after bytes : List ℕ) → TakesMember member bytes (before ++ 44 ∷ after)

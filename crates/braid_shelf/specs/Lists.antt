@@ -50,13 +50,15 @@ pub record SpellsParam (param : Param) (text : List ℕ) : Type 0 where
 -- parameters, one behind the other, in the order in which they stand
 abbrev pub SpellsParams : List Param → List ℕ → Type 0
 SpellsParams [] text = text ≡ []
-SpellsParams (param ∷ params) text = (front rest : List ℕ) × SpellsParam param front × SpellsParams params rest × (text ≡ front ++ rest)
+SpellsParams (param ∷ params) text = (front rest : List ℕ) × SpellsParam param front × SpellsParams params rest
+    × (text ≡ front ++ rest)
 
 -- a parameter beside others: a key that is there keeps its place and takes the later value, and a new one comes last
 abbrev pub put : List Param → Param → List Param
 put [] param = param ∷ []
 put (first ∷ params) param =
-    if pointwise nat_eq param.key first.key then record { key = first.key; value = param.value } ∷ params else first ∷ put params param
+    if pointwise nat_eq param.key first.key then record { key = first.key; value = param.value } ∷ params
+        else first ∷ put params param
 
 -- an entry of a map from keys to values, as a parameter
 abbrev pub param_of : List ℕ × Item → Param
@@ -88,7 +90,8 @@ pub record SpellsBeforeComma (member : Member) (text : List ℕ) : Type 0 where
 
 abbrev pub SpellsFollowed : List Member → List ℕ → Type 0
 SpellsFollowed [] text = text ≡ []
-SpellsFollowed (member ∷ members) text = (front rest : List ℕ) × SpellsBeforeComma member front × SpellsFollowed members rest × (text ≡ front ++ rest)
+SpellsFollowed (member ∷ members) text = (front rest : List ℕ) × SpellsBeforeComma member front
+    × SpellsFollowed members rest × (text ≡ front ++ rest)
 
 -- bytes of a value that stand behind spaces and whole members, each with a comma after it
 pub record StandsBehind (members : List Member) (value rest : List ℕ) : Type 0 where

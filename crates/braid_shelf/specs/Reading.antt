@@ -48,7 +48,8 @@ string_from quote text (b ∷ []) =
 string_from quote text (b ∷ c ∷ bytes) =
     if b == 34 then Read text (c ∷ bytes)
     else (if is_printable b then
-    (if b == 92 then (if is_escaped c then string_from quote (text ++ c ∷ []) bytes else Bad (suc (suc (length bytes))) BadItem)
+    (if b == 92 then (if is_escaped c then string_from quote (text ++ c ∷ []) bytes
+        else Bad (suc (suc (length bytes))) BadItem)
     else string_from quote (text ++ b ∷ []) (c ∷ bytes))
     else Bad (suc (suc (length bytes))) BadItem)
 
@@ -63,13 +64,15 @@ digits_at first sign bytes =
 
 unfoldable pub integer_at : List ℕ → Outcome Item
 integer_at [] = Bad 0 BadItem
-integer_at (b ∷ bytes) = if b == 45 then digits_at (suc (length bytes)) (λ n. neg_ℤ (pos n)) bytes else digits_at (suc (length bytes)) pos (b ∷ bytes)
+integer_at (b ∷ bytes) = if b == 45 then digits_at (suc (length bytes)) (λ n. neg_ℤ (pos n)) bytes
+    else digits_at (suc (length bytes)) pos (b ∷ bytes)
 
 -- what follows the question mark of a Boolean, at which so many bytes were left
 unfoldable pub boolean_from : ℕ → List ℕ → Outcome Item
 boolean_from first [] = Bad first BadItem
 boolean_from first (b ∷ bytes) =
-    if b == 48 then Read (items.Bool false) bytes else (if b == 49 then Read (items.Bool true) bytes else Bad first BadItem)
+    if b == 48 then Read (items.Bool false) bytes
+        else (if b == 49 then Read (items.Bool true) bytes else Bad first BadItem)
 
 -- an item, by its first byte
 unfoldable pub item_at : List ℕ → Outcome Item
@@ -83,7 +86,8 @@ item_at (b ∷ bytes) =
     else Bad (suc (length bytes)) BadItem))))
 
 unfoldable pub key_at : List ℕ → Outcome (List ℕ)
-key_at bytes = if begins begins_key bytes then Read (front_of is_in_key bytes) (after is_in_key bytes) else Bad (length bytes) BadKey
+key_at bytes = if begins begins_key bytes then Read (front_of is_in_key bytes) (after is_in_key bytes)
+    else Bad (length bytes) BadKey
 
 -- what follows a key: an item after `=`, or nothing
 unfoldable pub value_at : List ℕ → List ℕ → Outcome Param
@@ -113,13 +117,16 @@ unfoldable pub params_at : List Param → List ℕ → Outcome (List Param)
 params_at params bytes = while_read begins_param param_step (length bytes) params bytes
 
 unfoldable pub member_at : List ℕ → Outcome Member
-member_at bytes = then_read (item_at bytes) (λ item rest. then_read (params_at [] rest) (λ params end. Read (record { item = item; params = params }) end))
+member_at bytes =
+    then_read (item_at bytes)
+        (λ item rest. then_read (params_at [] rest) (λ params end. Read (record { item = item; params = params }) end))
 
 -- the comma before a further member, or the end
 unfoldable pub separator_at : List ℕ → Outcome (Unit {0})
 separator_at [] = Read tt []
 separator_at (b ∷ bytes) =
-    if b == 44 then (if length (after is_blank bytes) == 0 then Bad (suc (length bytes)) TrailingComma else Read tt (after is_blank bytes))
+    if b == 44 then (if length (after is_blank bytes) == 0 then Bad (suc (length bytes)) TrailingComma
+        else Read tt (after is_blank bytes))
     else Bad (suc (length bytes)) MissingComma
 
 -- the members that were read, and how many bytes were left at the first of them that is no String alone
@@ -132,14 +139,18 @@ first_other (Some first) left member = Some first
 first_other None left member = if is_string member then None else Some left
 
 abbrev pub with_member : Found → ℕ → Member → Found
-with_member found left member = record { members = found.members ++ member ∷ []; other = first_other found.other left member }
+with_member found left member =
+    record { members = found.members ++ member ∷ []; other = first_other found.other left member }
 
 abbrev pub is_some_left : List ℕ → Bool
 is_some_left [] = false
 is_some_left (b ∷ bytes) = true
 
 abbrev pub member_step : Found → List ℕ → Outcome Found
-member_step found bytes = then_read (member_at bytes) (λ member rest. then_read (separator_at (after is_blank rest)) (λ _ more. Read (with_member found (length bytes) member) more))
+member_step found bytes =
+    then_read (member_at bytes)
+        (λ member rest. then_read (separator_at (after is_blank rest))
+            (λ _ more. Read (with_member found (length bytes) member) more))
 
 -- members, where some were read before
 unfoldable pub members_at : Found → List ℕ → Outcome Found

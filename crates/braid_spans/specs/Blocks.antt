@@ -38,7 +38,8 @@ IsFilled b = length b ≤ 256
 
 -- no block has more than 256 runs, each has its sum, and one spare block for each 128 more runs is there: so a full block
 -- can be cut in two
-pub record AreBlocks (bs : List (List Run)) (sums : List Sum) (count undeleted room capacity sums_capacity : ℕ) : Type 0 where
+pub record AreBlocks (bs : List (List Run)) (sums : List Sum)
+    (count undeleted room capacity sums_capacity : ℕ) : Type 0 where
   pub counted : AreCounted (flat bs) undeleted
   pub count_is : count ≡ length (flat bs)
   pub sums_are : sums ≡ map sum_of bs

@@ -69,7 +69,9 @@ SpellsAlike old new = (versions : ℕ) (chars : List ℕ) (chains : List (List �
 
 -- run number i ends with the element at a place
 abbrev pub IsEndAt : List Run → At → ℕ → Type 0
-IsEndAt rs at i = IsSomeAnd (slice_get rs i) (λ (r : Run). (r.first.version ≡ at.version) × (r.first.ordinal + r.len ≡ at.ordinal + 1))
+IsEndAt rs at i =
+    IsSomeAnd (slice_get rs i) (λ (r : Run). (r.first.version ≡ at.version)
+        × (r.first.ordinal + r.len ≡ at.ordinal + 1))
 
 -- run number i begins with the element at a place and has at most so many
 abbrev pub IsPartAt : List Run → At → ℕ → ℕ → Type 0
@@ -90,10 +92,12 @@ MarksOne old new at by = (front : List Spelled) × (e : Spelled) × (back : List
 -- the new elements are the old ones, and one more version deletes so many of them: those of a version from an ordinal on
 abbrev pub MarksEach : List Spelled → List Spelled → ℕ → ℕ → ℕ → ℕ → Type 0
 MarksEach old new version n zero by = old ≡ new
-MarksEach old new version n (suc k) by = (mid : List Spelled) × MarksOne old mid (place version n) by × MarksEach mid new version (n + 1) k by
+MarksEach old new version n (suc k) by = (mid : List Spelled) × MarksOne old mid (place version n) by
+    × MarksEach mid new version (n + 1) k by
 
 -- the new elements are the old ones with those of a run in its place, and what deletes the old ones is as before
-pub record IsPut (vs : List Stamp) (old new : List Spelled) (first : At) (after : Option At) (text : List ℕ) : Type 0 where
+pub record IsPut (vs : List Stamp) (old new : List Spelled) (first : At) (after : Option At)
+    (text : List ℕ) : Type 0 where
   pub put : PutsRun (rows_of old) (rows_of new) first.version after first.ordinal text
   pub placed : ListsWithRun vs (rows_of old) (rows_of new) after first.ordinal text
   pub deletions : deletions_of new ≡ deletions_of old
@@ -102,9 +106,11 @@ pub record IsPut (vs : List Stamp) (old new : List Spelled) (first : At) (after 
 -- run number i
 abbrev pub PassesFirst : List Run → List Run → ℕ → Type 0
 PassesFirst old new i = (l r : Run) (versions by : ℕ) (chars : List ℕ) (chains : List (List ℕ))
-    → slice_get old (i - 1) ≡ Some l → slice_get old i ≡ Some r → chain_at chains l.newest ≡ by ∷ chain_at chains r.newest
+    → slice_get old (i - 1) ≡ Some l → slice_get old i ≡ Some r
+    → chain_at chains l.newest ≡ by ∷ chain_at chains r.newest
     → AreFitting versions chars chains old
-    → AreFitting versions chars chains new × MarksOne (spelled (spans_of chars chains old)) (spelled (spans_of chars chains new)) r.first by
+    → AreFitting versions chars chains new
+    × MarksOne (spelled (spans_of chars chains old)) (spelled (spans_of chars chains new)) r.first by
 
 -- each link leads to one with a smaller number
 abbrev pub AreLinked : List Link → Type 0
@@ -144,7 +150,8 @@ pub record IsPassable (rs : List Run) (chains : List (List ℕ)) (i : ℕ) (at :
   pub behind : 0 < i
   pub first : IsSomeAnd (slice_get rs i) (λ (r : Run). r.first ≡ at)
   pub next : IsSomeAnd (slice_get rs (i - 1)) (λ (l : Run). IsSomeAnd (slice_get rs i) (IsNext l))
-  pub chain : IsSomeAnd (slice_get rs (i - 1)) (λ (l : Run). IsSomeAnd (slice_get rs i) (λ (r : Run). chain_at chains l.newest ≡ by ∷ chain_at chains r.newest))
+  pub chain : IsSomeAnd (slice_get rs (i - 1))
+      (λ (l : Run). IsSomeAnd (slice_get rs i) (λ (r : Run). chain_at chains l.newest ≡ by ∷ chain_at chains r.newest))
 
 -- run number i, if there is one, begins with a greater key than `first`
 abbrev pub IsRunPassed : List Stamp → List Run → At → ℕ → Type 0
@@ -152,7 +159,8 @@ IsRunPassed vs rs first i = IfSome (slice_get rs i) (λ (r : Run). key_cmp (key_
 
 -- run number i, if there is one, begins with no greater key
 abbrev pub IsRunNotPassed : List Stamp → List Run → At → ℕ → Type 0
-IsRunNotPassed vs rs first i = IfSome (slice_get rs i) (λ (r : Run). ¬ (key_cmp (key_at vs first) (key_at vs r.first) ≡ Less))
+IsRunNotPassed vs rs first i =
+    IfSome (slice_get rs i) (λ (r : Run). ¬ (key_cmp (key_at vs first) (key_at vs r.first) ≡ Less))
 
 -- how many elements runs hold
 abbrev pub size_in : List Run → ℕ
@@ -179,7 +187,8 @@ pub record RunsView : Type 0 where
   pub room : ℕ
 
 -- versions, characters, links and runs that fit together, with this many deletions
-pub record IsSound (vs : List SpanVersion) (chars : List ℕ) (links : List Link) (rs : List Run) (deletions : ℕ) : Type 0 where
+pub record IsSound (vs : List SpanVersion) (chars : List ℕ) (links : List Link) (rs : List Run)
+    (deletions : ℕ) : Type 0 where
   pub known : AreKnown (stamps_in vs) (rows_of (spelled (spans_of chars (chains_of links) rs)))
   pub own_places : HaveOwnPlaces (rows_of (spelled (spans_of chars (chains_of links) rs)))
   pub fitting : AreFitting (length vs) chars (chains_of links) rs
@@ -190,7 +199,8 @@ pub record IsSound (vs : List SpanVersion) (chars : List ℕ) (links : List Link
   pub few_links : length links ≤ deletions
 
 -- the room that is left is there: for versions, characters and links, and for two runs for each element and each deletion
-pub record HasLeft (left : Left) (versions versions_capacity chars chars_capacity links links_capacity deletions runs_room : ℕ) : Type 0 where
+pub record HasLeft (left : Left)
+    (versions versions_capacity chars chars_capacity links links_capacity deletions runs_room : ℕ) : Type 0 where
   pub versions_fit : versions + left.versions ≤ versions_capacity
   pub chars_fit : chars + left.elements ≤ chars_capacity
   pub links_fit : links + left.deletions ≤ links_capacity

@@ -17,7 +17,8 @@ pub record LacksLine (rest bytes : List ℕ) : Type 0 where
 
 -- the bytes do not begin with an update after a gap
 abbrev pub BeginsNoUpdate : List ℕ → Type 0
-BeginsNoUpdate bytes = (u : UpdateView) (gap first more : List ℕ) → IsGap gap → SpellsUpdate u first → bytes ≡ gap ++ (first ++ more) → ⊥
+BeginsNoUpdate bytes = (u : UpdateView) (gap first more : List ℕ) → IsGap gap → SpellsUpdate u first
+    → bytes ≡ gap ++ (first ++ more) → ⊥
 
 -- the body is fewer updates than that and then the rest, which begins with no further one
 pub record LacksUpdate (count : ℕ) (rest body : List ℕ) : Type 0 where
@@ -49,13 +50,15 @@ pub data IsBadTail (rest bytes : List ℕ) : Type 0 where
 -- a body of so many updates is bad from here: an update with the gap before it is none, or all are and the tail is bad
 pub data IsBadBody (count : ℕ) (rest body : List ℕ) : Type 0 where
   bad_update : LacksUpdate count rest body → IsBadBody count rest body
-  bad_tail : (updates : List UpdateView) (tail : List ℕ) → length updates ≡ count → UpdatesThen updates tail body → IsBadTail rest tail → IsBadBody count rest body
+  bad_tail : (updates : List UpdateView) (tail : List ℕ) → length updates ≡ count → UpdatesThen updates tail body
+      → IsBadTail rest tail → IsBadBody count rest body
 
 -- the bytes spell no state, and the first that is not of the form is here: a line of the head, or something of the body behind
 -- a whole head
 pub data IsBadFrom (rest bytes : List ℕ) : Type 0 where
   bad_line : LacksLine rest bytes → IsBadFrom rest bytes
-  bad_body : (head : Head) (body : List ℕ) → HasLines head_lines head body bytes → IsBadBody (count_of head.confirmed + count_of head.unsent) rest body
+  bad_body : (head : Head) (body : List ℕ) → HasLines head_lines head body bytes
+      → IsBadBody (count_of head.confirmed + count_of head.unsent) rest body
       → IsBadFrom rest bytes
 
 -- the fault of bytes that spell no state: the place where the bad rest begins, which is their length where nothing stands

@@ -11,7 +11,8 @@ use Rattle.braid_state.specs.Heads.{Head, head_lines, line_of, most_updates, Has
 
 -- the head of a state's text: its counts in decimal
 abbrev pub head_of : State → Head
-head_of s = record { agent = s.agent; server = s.server; path = s.path; confirmed = decimal (length s.confirmed); unsent = decimal (length s.unsent) }
+head_of s = record { agent = s.agent; server = s.server; path = s.path; confirmed =
+    decimal (length s.confirmed); unsent = decimal (length s.unsent) }
 
 -- updates, each after a gap, and then the rest
 abbrev pub UpdatesThen : List UpdateView → List ℕ → List ℕ → Type 0
@@ -43,4 +44,5 @@ pub record IsState (s : State) : Type 0 where
 
 -- the text of a state, its updates in their canonical spellings
 abbrev pub state_text : State → List ℕ
-state_text s = flat_map (line_of (head_of s)) head_lines ++ (canonical_all s.confirmed ++ (canonical_all s.unsent ++ end_mark))
+state_text s =
+    flat_map (line_of (head_of s)) head_lines ++ (canonical_all s.confirmed ++ (canonical_all s.unsent ++ end_mark))

@@ -51,14 +51,17 @@ pub record IsFirstOver (c : Counts) (which : Which) : Type 0 where
 abbrev pub IsPut : List Entry → Entry → Put → Type 0
 IsPut B e New = MayFollow (of_path B e.path) e.update × IsWithin (counts_at (B ++ e ∷ []) e.path)
 IsPut B e Known = Contains (of_path B e.path) e.update
-IsPut B e (Clash v) = (v ≡ e.update.id) × Holds (graph_of (of_path B e.path)) v × ¬ (Contains (of_path B e.path) e.update)
-IsPut B e (UnknownParent v) = ¬ (Holds (graph_of (of_path B e.path)) e.update.id) × IsLeastUnheld (graph_of (of_path B e.path)) e.update.parents v
+IsPut B e (Clash v) = (v ≡ e.update.id) × Holds (graph_of (of_path B e.path)) v
+    × ¬ (Contains (of_path B e.path) e.update)
+IsPut B e (UnknownParent v) = ¬ (Holds (graph_of (of_path B e.path)) e.update.id)
+    × IsLeastUnheld (graph_of (of_path B e.path)) e.update.parents v
 IsPut B e (OutOfRange patch len) =
     ¬ (Holds (graph_of (of_path B e.path)) e.update.id) × HoldsAll (graph_of (of_path B e.path)) e.update.parents
     × (first_past (text_at (of_path B e.path) e.update.parents) e.update.change ≡ Some patch)
     × (len ≡ length (text_at (of_path B e.path) e.update.parents))
 IsPut B e (Full which limit) =
-    MayFollow (of_path B e.path) e.update × IsFirstOver (counts_at (B ++ e ∷ []) e.path) which × (limit ≡ limit_of which)
+    MayFollow (of_path B e.path) e.update × IsFirstOver (counts_at (B ++ e ∷ []) e.path) which
+        × (limit ≡ limit_of which)
 IsPut B e Memory = ¬ (Contains (of_path B e.path) e.update)
 
 -- a refusal of a path's history as the book's answer; what a history says of room is no answer of a book

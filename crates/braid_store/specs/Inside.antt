@@ -16,7 +16,11 @@ use Rattle.braid_store.specs.Answers.{IsPut}
 
 -- the entry at a place, where the place is an update's: its path, its number and its update
 abbrev pub entry_at : List (List ℕ × List UpdateView) → Place → Option Entry
-entry_at rs place = option_and_then (λ (r : List ℕ × List UpdateView). option_map (λ (u : UpdateView). record { path = r.0; by = place.by; update = u }) (slice_get r.1 place.number)) (slice_get rs place.resource)
+entry_at rs place =
+    option_and_then
+        (λ (r : List ℕ × List UpdateView). option_map
+            (λ (u : UpdateView). record { path = r.0; by = place.by; update = u }) (slice_get r.1 place.number))
+                (slice_get rs place.resource)
 
 -- the entries at places, of resources that are listed by path
 abbrev pub entries_at : List (List ℕ × List UpdateView) → List Place → List Entry
@@ -43,7 +47,8 @@ pub record IsBook (B : List Entry) : Type 0 where
   pub few_deletions : sum_of (λ (H : List UpdateView). length (deletions_of H)) B ≤ 33_554_432
 
 -- resources by path, places and totals are those of a book: the resources of its paths, a place for each entry, and the sums over all paths
-pub record KeepsBook (rs : List (List ℕ × List UpdateView)) (places : List Place) (elements deletions : ℕ) : Type 0 where
+pub record KeepsBook (rs : List (List ℕ × List UpdateView)) (places : List Place)
+    (elements deletions : ℕ) : Type 0 where
   pub placed : ArePlaced rs places
   pub resources : rs ≡ resources_of (entries_at rs places)
   pub elements_sum : elements ≡ sum_of (λ (H : List UpdateView). length (elements_of H)) (entries_at rs places)
@@ -73,11 +78,13 @@ pub record Puts (old new : Contents) (e : Entry) (a : Put) : Type 0 where
 
 -- a resource that may be added: its one update is new to the book
 abbrev pub MayAdd : Contents → List ℕ → ℕ → List UpdateView → Type 0
-MayAdd c path by us = (u : UpdateView) × (us ≡ u ∷ []) × IsPut (entries_in c) (record { path = path; by = by; update = u }) New
+MayAdd c path by us = (u : UpdateView) × (us ≡ u ∷ [])
+    × IsPut (entries_in c) (record { path = path; by = by; update = u }) New
 
 -- what a resource that was added leaves: an entry of its one update
 abbrev pub Adds : Contents → Contents → List ℕ → ℕ → List UpdateView → Type 0
-Adds old new path by us = (u : UpdateView) → us ≡ u ∷ [] → entries_in new ≡ entries_in old ++ (record { path = path; by = by; update = u }) ∷ []
+Adds old new path by us = (u : UpdateView) → us ≡ u ∷ []
+    → entries_in new ≡ entries_in old ++ (record { path = path; by = by; update = u }) ∷ []
 
 -- there is room for one resource and one entry more
 pub record HasSpare (c : Contents) : Type 0 where

@@ -23,7 +23,8 @@ pub record EndsBehind (bytes : List ℕ) (before after : Intake) : Type 0 where
 
 -- one read of at most so many bytes: they stand at the buffer's front; or the source ended, or failed
 abbrev pub ReadsFront : Read → List ℕ → ℕ → Intake → Intake → Type 0
-ReadsFront (Got n) buffer most before after = (0 < n) × (n ≤ length buffer) × (n ≤ most) × Moves (take n buffer) before after
+ReadsFront (Got n) buffer most before after = (0 < n) × (n ≤ length buffer) × (n ≤ most)
+    × Moves (take n buffer) before after
 ReadsFront End buffer most before after = (after ≡ before) × IsAtEnd before.left
 ReadsFront Failed buffer most before after = FailsBehind [] before after
 

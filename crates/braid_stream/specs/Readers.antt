@@ -60,8 +60,10 @@ abbrev pub IsCause : List UpdateView → List ℕ → List ℕ → Intake → In
 IsCause us more bytes before after (Update u) = Moves more before after × BeginsWith us u bytes
 IsCause us more bytes before after End = EndsBehind more before after × IsStream us bytes × (length bytes < most_bytes)
 IsCause us more bytes before after (Torn at) =
-    EndsBehind more before after × HaveUpdates us bytes × IsTorn bytes × (at ≡ length bytes) × (length bytes < most_bytes)
-IsCause us more bytes before after (Fault f) = Moves more before after × HasFault us bytes f × (length bytes ≤ most_bytes)
+    EndsBehind more before after × HaveUpdates us bytes × IsTorn bytes × (at ≡ length bytes)
+        × (length bytes < most_bytes)
+IsCause us more bytes before after (Fault f) = Moves more before after × HasFault us bytes f
+    × (length bytes ≤ most_bytes)
 IsCause us more bytes before after ReadFault =
     FailsBehind more before after × HaveUpdates us bytes × (length bytes < most_bytes)
 IsCause us more bytes before after Spent =
@@ -81,7 +83,8 @@ Leaves us bytes Memory new = HasEnded new Memory
 
 -- one call of a reader that goes on, which had taken these bytes: the source gave some bytes more, or none; and none
 -- where the answer was at hand
-pub record Answers (us : List UpdateView) (bytes : List ℕ) (next : Next) (new : Reading) (before after : Intake) : Type 0 where
+pub record Answers (us : List UpdateView) (bytes : List ℕ) (next : Next) (new : Reading)
+    (before after : Intake) : Type 0 where
   pub more : List ℕ
   pub at_hand : HaveAnswer us bytes → more ≡ []
   pub cause : IsCause us more (bytes ++ more) before after next

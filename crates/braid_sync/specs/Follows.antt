@@ -38,10 +38,12 @@ lines_of r (u ∷ us) = line_of r u ++ lines_of (learnt r u) us
 
 -- in a follow the body of a reply is cut where it is whole and its data ends within an update, or its source has ended before
 abbrev pub IsCut : BodyKind → List ℕ → List ℕ → List ℕ → Option (List ℕ) → Type 0
-IsCut kind content passed rest left = (IsOver kind content passed rest left × IsTorn content) ⊎ IsCutOff kind content passed rest left
+IsCut kind content passed rest left = (IsOver kind content passed rest left × IsTorn content)
+    ⊎ IsCutOff kind content passed rest left
 
 -- the body is whole, and its data is these updates
-pub record IsWholeStream (kind : BodyKind) (content passed rest : List ℕ) (left : Option (List ℕ)) (us : List UpdateView) : Type 0 where
+pub record IsWholeStream (kind : BodyKind) (content passed rest : List ℕ) (left : Option (List ℕ))
+    (us : List UpdateView) : Type 0 where
   pub over : IsOver kind content passed rest left
   pub stream : IsStream us content
   pub short : length content < most_bytes
@@ -58,23 +60,33 @@ pub record IsUnprinted (us : List UpdateView) (content : List ℕ) (q m : Replic
 -- be dialled; there was no memory to dial; the subscription was not begun; so many updates were learnt; fewer were, and the
 -- body is whole and its data is these; fewer were, and the reading ended otherwise; an update was learnt, and its line was not
 -- written whole.
-pub data FollowText (place : Place) (count : ℕ) (r : ReplicaView) : List Said → List ℕ → ℕ → List ℕ → ReplicaView → SyncEnd → Type 0 where
+pub data FollowText (place : Place) (count : ℕ) (r : ReplicaView) : List Said → List ℕ → ℕ → List ℕ → ReplicaView
+    → SyncEnd → Type 0 where
   unreached : FollowText place count r [] [] 0 [] r ends.DialFault
   unaided : FollowText place count r [] [] 0 [] r ends.Memory
-  not_begun : (said : Said) (end : SyncEnd) → IsTo place said → Opens place r said (ended end) → FollowText place count r (said ∷ []) [] 0 [] r end
-  counted : (said : Said) (kind : BodyKind) (V : List (List ℕ)) (behind passed rest content : List ℕ) (us : List UpdateView) (q : ReplicaView)
-      → IsTo place said → Opens place r said (opened kind V behind) → Hears kind behind r passed rest content us q → length us ≡ count
+  not_begun : (said : Said) (end : SyncEnd) → IsTo place said → Opens place r said (ended end)
+      → FollowText place count r (said ∷ []) [] 0 [] r end
+  counted : (said : Said) (kind : BodyKind) (V : List (List ℕ)) (behind passed rest content : List ℕ)
+      (us : List UpdateView) (q : ReplicaView)
+      → IsTo place said → Opens place r said (opened kind V behind) → Hears kind behind r passed rest content us q
+      → length us ≡ count
       → FollowText place count r (said ∷ []) (lines_of r us) (length us) [] q ends.Done
-  heard_out : (said : Said) (kind : BodyKind) (V : List (List ℕ)) (behind passed rest content : List ℕ) (us : List UpdateView) (q : ReplicaView)
-      → IsTo place said → Opens place r said (opened kind V behind) → Hears kind behind r passed rest content us q → length us < count
+  heard_out : (said : Said) (kind : BodyKind) (V : List (List ℕ)) (behind passed rest content : List ℕ)
+      (us : List UpdateView) (q : ReplicaView)
+      → IsTo place said → Opens place r said (opened kind V behind) → Hears kind behind r passed rest content us q
+      → length us < count
       → IsWholeStream kind content passed rest said.left us
       → FollowText place count r (said ∷ []) (lines_of r us) (length us) [] q ends.Done
-  broken_off : (said : Said) (kind : BodyKind) (V : List (List ℕ)) (behind passed rest content : List ℕ) (us : List UpdateView) (q : ReplicaView) (end : SyncEnd)
-      → IsTo place said → Opens place r said (opened kind V behind) → Hears kind behind r passed rest content us q → length us < count
+  broken_off : (said : Said) (kind : BodyKind) (V : List (List ℕ)) (behind passed rest content : List ℕ)
+      (us : List UpdateView) (q : ReplicaView) (end : SyncEnd)
+      → IsTo place said → Opens place r said (opened kind V behind) → Hears kind behind r passed rest content us q
+      → length us < count
       → EndsHearing (IsCut kind content passed rest said.left) kind passed rest content us q end
       → FollowText place count r (said ∷ []) (lines_of r us) (length us) [] q end
-  unprinted : (said : Said) (kind : BodyKind) (V : List (List ℕ)) (behind passed rest content line : List ℕ) (us : List UpdateView) (q m : ReplicaView)
-      → IsTo place said → Opens place r said (opened kind V behind) → Hears kind behind r passed rest content us q → length us < count
+  unprinted : (said : Said) (kind : BodyKind) (V : List (List ℕ)) (behind passed rest content line : List ℕ)
+      (us : List UpdateView) (q m : ReplicaView)
+      → IsTo place said → Opens place r said (opened kind V behind) → Hears kind behind r passed rest content us q
+      → length us < count
       → IsUnprinted us content q m line
       → FollowText place count r (said ∷ []) (lines_of r us) (length us) line m ends.OutFault
 
@@ -91,7 +103,8 @@ Prints lines (byte ∷ line) old new = PrintsPart lines (byte ∷ line) old new
 
 -- A follow over a dialer and a sink: the dialer gained these talks, which tell what was said; the call that the end names
 -- failed, and no other; what was said is the text of the follow with these lines and this end, and the lines were written.
-pub record Follows (place : Place) (count : ℕ) (r q : ReplicaView) (followed : Followed) (old new : Dialing) (out_old out_new : Outflow) : Type 0 where
+pub record Follows (place : Place) (count : ℕ) (r q : ReplicaView) (followed : Followed) (old new : Dialing)
+    (out_old out_new : Outflow) : Type 0 where
   pub talks : List Talk
   pub saids : List Said
   pub lines : List ℕ

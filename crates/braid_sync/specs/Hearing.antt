@@ -33,7 +33,8 @@ pub record BeginWith (us : List UpdateView) (bytes : List ℕ) : Type 0 where
 -- Behind a reply's head, whose body is of this kind, these bytes were given. Of them `passed` were taken as the body's, with
 -- this data in them, and `rest` stands behind; the data begins with these updates, and the replica, which was r, has learnt
 -- them one after the other and is q.
-pub record Hears (kind : BodyKind) (given : List ℕ) (r : ReplicaView) (passed rest content : List ℕ) (us : List UpdateView) (q : ReplicaView) : Type 0 where
+pub record Hears (kind : BodyKind) (given : List ℕ) (r : ReplicaView) (passed rest content : List ℕ)
+    (us : List UpdateView) (q : ReplicaView) : Type 0 where
   pub split : given ≡ passed ++ rest
   pub comes : HasData kind content passed
   pub begins : BeginWith us (seen content)
@@ -81,9 +82,11 @@ EndsHearing cut kind passed rest content us q (ends.BadHead BadChunk) = IsBadChu
 EndsHearing cut kind passed rest content us q (ends.BadStream f) = HasFault us (seen content) f
 EndsHearing cut kind passed rest content us q (ends.Clash v) = IsRefused us content q (ends.Clash v)
 EndsHearing cut kind passed rest content us q (ends.UnknownParent v) = IsRefused us content q (ends.UnknownParent v)
-EndsHearing cut kind passed rest content us q (ends.OutOfRange patch len) = IsRefused us content q (ends.OutOfRange patch len)
+EndsHearing cut kind passed rest content us q (ends.OutOfRange patch len) =
+    IsRefused us content q (ends.OutOfRange patch len)
 EndsHearing cut kind passed rest content us q (ends.Full which limit) = IsRefused us content q (ends.Full which limit)
-EndsHearing cut kind passed rest content us q ends.ReadFault = HaveAll us content × HasBegun kind content passed × (rest ≡ [])
+EndsHearing cut kind passed rest content us q ends.ReadFault = HaveAll us content × HasBegun kind content passed
+    × (rest ≡ [])
 EndsHearing cut kind passed rest content us q ends.Spent = HaveUpdates us (seen content) × (most_bytes ≤ length content)
 EndsHearing cut kind passed rest content us q ends.Memory = Unit {0}
 EndsHearing cut kind passed rest content us q end = ⊥

@@ -67,31 +67,39 @@ abbrev pub PassesBody : Result (Unit {0}) SyncEnd → BodyKind → List ℕ → 
 PassesBody (Ok x) kind bytes rest left =
     (content passed : List ℕ) × (bytes ≡ passed ++ rest) × IsOver kind content passed rest left × IsWithin kind content
 PassesBody (Err ends.Cut) kind bytes rest left =
-    (content passed : List ℕ) × (bytes ≡ passed ++ rest) × IsCutOff kind content passed rest left × (length content < most_bytes)
+    (content passed : List ℕ) × (bytes ≡ passed ++ rest) × IsCutOff kind content passed rest left
+        × (length content < most_bytes)
 PassesBody (Err (ends.BadHead f)) kind bytes rest left =
-    (content passed : List ℕ) × (bytes ≡ passed ++ rest) × (f ≡ Against) × IsAgainst kind content passed × (length content < most_bytes)
+    (content passed : List ℕ) × (bytes ≡ passed ++ rest) × (f ≡ Against) × IsAgainst kind content passed
+        × (length content < most_bytes)
 PassesBody (Err ends.ReadFault) kind bytes rest left =
-    (content passed : List ℕ) × (bytes ≡ passed ++ rest) × HasBegun kind content passed × (rest ≡ []) × (length content < most_bytes)
+    (content passed : List ℕ) × (bytes ≡ passed ++ rest) × HasBegun kind content passed × (rest ≡ [])
+        × (length content < most_bytes)
 PassesBody (Err ends.Spent) kind bytes rest left =
     (content passed : List ℕ) × (bytes ≡ passed ++ rest) × HasBegun kind content passed × (length content ≡ most_bytes)
 PassesBody (Err end) kind bytes rest left = ⊥
 
 -- One PUT of the first unsent update u, of which `sent` was sent, and of the bytes that the wire held and those given the
 -- reply was read: it was taken and is confirmed; or an end came, and the replica is as it was.
-abbrev pub PostsOf : Place → ReplicaView → Result (Unit {0}) SyncEnd → List ℕ → List ℕ → List ℕ → Option (List ℕ) → ReplicaView → UpdateView → Type 0
-PostsOf place r (Ok x) sent bytes rest left q u = (sent ≡ put_text place u) × IsReply 200 bytes rest left × Confirms r (u ∷ []) q
-PostsOf place r (Err ends.WriteFault) sent bytes rest left q u = (q ≡ r) × IsPartOf sent (put_text place u) × (bytes ≡ rest)
+abbrev pub PostsOf : Place → ReplicaView → Result (Unit {0}) SyncEnd → List ℕ → List ℕ → List ℕ → Option (List ℕ)
+    → ReplicaView → UpdateView → Type 0
+PostsOf place r (Ok x) sent bytes rest left q u = (sent ≡ put_text place u) × IsReply 200 bytes rest left
+    × Confirms r (u ∷ []) q
+PostsOf place r (Err ends.WriteFault) sent bytes rest left q u = (q ≡ r) × IsPartOf sent (put_text place u)
+    × (bytes ≡ rest)
 PostsOf place r (Err ends.Memory) sent bytes rest left q u = (q ≡ r) × IsFrontOf sent (put_text place u)
 PostsOf place r (Err end) sent bytes rest left q u = (q ≡ r) × (sent ≡ put_text place u) × EndsReply end bytes left
 
-abbrev pub PostsOne : Place → ReplicaView → Result (Unit {0}) SyncEnd → List ℕ → List ℕ → List ℕ → Option (List ℕ) → ReplicaView → Type 0
+abbrev pub PostsOne : Place → ReplicaView → Result (Unit {0}) SyncEnd → List ℕ → List ℕ → List ℕ → Option (List ℕ)
+    → ReplicaView → Type 0
 PostsOne place r result sent bytes rest left q =
     (u : UpdateView) × IsHeadOf r u × PostsOf place r result sent bytes rest left q u
 
 -- One dial to the server of a place: a link that is up; or an end, at which the dialer gained nothing.
 abbrev pub DialsTo : {K : Type 0} → (K → Intake) → (K → Outflow) → Place → Result K SyncEnd → Dialing → Dialing → Type 0
 DialsTo intake outflow place (Ok link) old new = Reaches place.server (intake link) (outflow link) old new
-DialsTo intake outflow place (Err end) old new = ((end ≡ ends.DialFault) ⊎ (end ≡ ends.Memory)) × Gains [] old new × FailedBy (failing end) [] old new
+DialsTo intake outflow place (Err end) old new = ((end ≡ ends.DialFault) ⊎ (end ≡ ends.Memory)) × Gains [] old new
+    × FailedBy (failing end) [] old new
 
 -- one link was dialled to the server of a place and hung up, of which P is true
 pub record TalksOnce (place : Place) (failed : Failing) (P : Said → Type 0) (old new : Dialing) : Type 0 where
@@ -107,14 +115,16 @@ pub record TalksOnce (place : Place) (failed : Failing) (P : Said → Type 0) (o
 abbrev pub Talks : {A : Type 0} → Place → Result A SyncEnd → (Said → Type 0) → Type 0 → Dialing → Dialing → Type 0
 Talks place result P kept old new =
     TalksOnce place (failing_in result) P old new
-    ⊎ (kept × ((result ≡ Err ends.DialFault) ⊎ (result ≡ Err ends.Memory)) × Gains [] old new × FailedBy (failing_in result) [] old new)
+    ⊎ (kept × ((result ≡ Err ends.DialFault) ⊎ (result ≡ Err ends.Memory)) × Gains [] old new
+        × FailedBy (failing_in result) [] old new)
 
 -- a sync, as it stands when it ends: Ok is Done
 abbrev pub end_in_sync : Result (Unit {0}) SyncEnd → SyncEnd
 end_in_sync (Ok x) = ends.Done
 end_in_sync (Err end) = end
 
-pub record SyncsAs (place : Place) (r q : ReplicaView) (result : Result (Unit {0}) SyncEnd) (old new : Dialing) : Type 0 where
+pub record SyncsAs (place : Place) (r q : ReplicaView) (result : Result (Unit {0}) SyncEnd)
+    (old new : Dialing) : Type 0 where
   pub talks : List Talk
   pub saids : List Said
   pub gains : Gains talks old new
@@ -128,19 +138,24 @@ PrintsOne (Ok x) line old new = WritesAll line old new
 PrintsOne (Err end) line old new = (end ≡ ends.OutFault) × WritesPart line old new
 
 -- an update was learnt and its line printed; or was learnt and its line was not written whole; or was not learnt
-abbrev pub LearnsAndPrints : Result (Unit {0}) SyncEnd → ReplicaView → UpdateView → ReplicaView → Outflow → Outflow → Type 0
-LearnsAndPrints (Ok x) r u q old new = (refusal_end (answer_to r u) ≡ None) × (q ≡ learnt r u) × WritesAll (line_of r u) old new
-LearnsAndPrints (Err ends.OutFault) r u q old new = (refusal_end (answer_to r u) ≡ None) × (q ≡ learnt r u) × WritesPart (line_of r u) old new
+abbrev pub LearnsAndPrints : Result (Unit {0}) SyncEnd → ReplicaView → UpdateView → ReplicaView → Outflow → Outflow
+    → Type 0
+LearnsAndPrints (Ok x) r u q old new = (refusal_end (answer_to r u) ≡ None) × (q ≡ learnt r u)
+    × WritesAll (line_of r u) old new
+LearnsAndPrints (Err ends.OutFault) r u q old new = (refusal_end (answer_to r u) ≡ None) × (q ≡ learnt r u)
+    × WritesPart (line_of r u) old new
 LearnsAndPrints (Err end) r u q old new = (Refuses r u end ⊎ (end ≡ ends.Memory)) × (q ≡ r) × (new ≡ old)
 
 -- a follow on a link, or over a dialer: its text, and what was printed of it
-pub record FollowsOn (place : Place) (count : ℕ) (r : ReplicaView) (said : Said) (result : Result (Unit {0}) SyncEnd) (n : ℕ) (q : ReplicaView) (out_old out_new : Outflow) : Type 0 where
+pub record FollowsOn (place : Place) (count : ℕ) (r : ReplicaView) (said : Said) (result : Result (Unit {0}) SyncEnd)
+    (n : ℕ) (q : ReplicaView) (out_old out_new : Outflow) : Type 0 where
   pub lines : List ℕ
   pub line : List ℕ
   pub text : FollowText place count r (said ∷ []) lines n line q (end_in_sync result)
   pub printed : Prints lines line out_old out_new
 
-pub record FollowsOver (place : Place) (count : ℕ) (r q : ReplicaView) (result : Result (Unit {0}) SyncEnd) (n : ℕ) (old new : Dialing) (out_old out_new : Outflow) : Type 0 where
+pub record FollowsOver (place : Place) (count : ℕ) (r q : ReplicaView) (result : Result (Unit {0}) SyncEnd) (n : ℕ)
+    (old new : Dialing) (out_old out_new : Outflow) : Type 0 where
   pub talks : List Talk
   pub saids : List Said
   pub lines : List ℕ

@@ -49,8 +49,10 @@ pub data Begun : Type 0 where
 -- it was sent and no head came; a head came and is judged to be an end; or it names the current version; or there was no
 -- memory at some point, and a part of the request was sent, or all of it.
 pub data Opens (place : Place) (r : ReplicaView) (said : Said) : Begun → Type 0 where
-  unwritten : IsPartOf said.sent (subscription_text place r) → said.given ≡ [] → Opens place r said (ended ends.WriteFault)
-  headless : (end : SyncEnd) → said.sent ≡ subscription_text place r → EndsHead end said → Opens place r said (ended end)
+  unwritten : IsPartOf said.sent (subscription_text place r) → said.given ≡ []
+      → Opens place r said (ended ends.WriteFault)
+  headless : (end : SyncEnd) → said.sent ≡ subscription_text place r → EndsHead end said
+      → Opens place r said (ended end)
   turned_down : (head : ReplyHead) (rest : List ℕ) (end : SyncEnd) → said.sent ≡ subscription_text place r
       → IsReplyDecided (replied head) said.given rest → judge head ≡ Err end → Opens place r said (ended end)
   begun : (head : ReplyHead) (rest : List ℕ) (V : List (List ℕ)) → said.sent ≡ subscription_text place r

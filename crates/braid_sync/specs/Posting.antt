@@ -76,19 +76,22 @@ pub record IsInBody (bytes : List ℕ) (B : ReplyHead → List ℕ → List ℕ 
 
 -- the bytes of a reply's body are against it
 abbrev pub IsBadReply : Refusal → List ℕ → Type 0
-IsBadReply f bytes = (f ≡ BadChunk) × IsInBody bytes (λ head content passed rest. IsAgainst head.body content passed × (length content < most_bytes))
+IsBadReply f bytes = (f ≡ BadChunk)
+    × IsInBody bytes (λ head content passed rest. IsAgainst head.body content passed × (length content < most_bytes))
 
 -- Why a reply to a PUT is not the whole reply of status 200 that is awaited: it is whole and has another status; it is
 -- refused, or its body is; the source has ended before it was whole; a read failed before; or its body has come to the limit.
 abbrev pub EndsReply : SyncEnd → List ℕ → Option (List ℕ) → Type 0
 EndsReply ends.Cut bytes left =
     (IsReplyOpen bytes × IsAtEnd left)
-    ⊎ IsInBody bytes (λ head content passed rest. IsCutOff head.body content passed rest left × (length content < most_bytes))
+    ⊎ IsInBody bytes (λ head content passed rest. IsCutOff head.body content passed rest left
+        × (length content < most_bytes))
 EndsReply (ends.Peer status) bytes left = (status ≢ 200) × (rest : List ℕ) × IsReply status bytes rest left
 EndsReply (ends.BadHead f) bytes left = ((rest : List ℕ) × IsReplyDecided (refused f) bytes rest) ⊎ IsBadReply f bytes
 EndsReply ends.ReadFault bytes left =
     IsReplyOpen bytes
-    ⊎ IsInBody bytes (λ head content passed rest. HasBegun head.body content passed × (rest ≡ []) × (length content < most_bytes))
+    ⊎ IsInBody bytes (λ head content passed rest. HasBegun head.body content passed × (rest ≡ [])
+        × (length content < most_bytes))
 EndsReply ends.Spent bytes left =
     IsInBody bytes (λ head content passed rest. HasBegun head.body content passed × (length content ≡ most_bytes))
 EndsReply end bytes left = ⊥
@@ -98,14 +101,21 @@ EndsReply end bytes left = ⊥
 -- written, and its reply is not the one awaited; or there was no memory, and a part of it was written, or all of it.
 pub data Posts (place : Place) (r : ReplicaView) (said : Said) : ReplicaView → Option SyncEnd → Type 0 where
   posted : (us : List UpdateView) (rest : List ℕ) (q : ReplicaView) → Confirms r us q → length us ≤ 1_000
-      → ((q.unsent ≡ []) ⊎ (length us ≡ 1_000)) → said.sent ≡ put_texts place us → Acknowledges us said.given rest said.left
+      → ((q.unsent ≡ []) ⊎ (length us ≡ 1_000)) → said.sent ≡ put_texts place us
+      → Acknowledges us said.given rest said.left
       → Posts place r said q None
-  unwritten : (us : List UpdateView) (u : UpdateView) (part rest : List ℕ) (q : ReplicaView) → Confirms r us q → length us < 1_000
-      → IsHeadOf q u → IsPartOf part (put_text place u) → said.sent ≡ put_texts place us ++ part → Acknowledges us said.given rest said.left
+  unwritten : (us : List UpdateView) (u : UpdateView) (part rest : List ℕ) (q : ReplicaView) → Confirms r us q
+      → length us < 1_000
+      → IsHeadOf q u → IsPartOf part (put_text place u) → said.sent ≡ put_texts place us ++ part
+      → Acknowledges us said.given rest said.left
       → Posts place r said q (Some ends.WriteFault)
-  unanswered : (us : List UpdateView) (u : UpdateView) (rest : List ℕ) (q : ReplicaView) (end : SyncEnd) → Confirms r us q → length us < 1_000
-      → IsHeadOf q u → said.sent ≡ put_texts place us ++ put_text place u → Acknowledges us said.given rest said.left → EndsReply end rest said.left
+  unanswered : (us : List UpdateView) (u : UpdateView) (rest : List ℕ) (q : ReplicaView) (end : SyncEnd)
+      → Confirms r us q → length us < 1_000
+      → IsHeadOf q u → said.sent ≡ put_texts place us ++ put_text place u → Acknowledges us said.given rest said.left
+      → EndsReply end rest said.left
       → Posts place r said q (Some end)
-  unaided : (us : List UpdateView) (u : UpdateView) (part rest : List ℕ) (q : ReplicaView) → Confirms r us q → length us < 1_000
-      → IsHeadOf q u → IsFrontOf part (put_text place u) → said.sent ≡ put_texts place us ++ part → Acknowledges us said.given rest said.left
+  unaided : (us : List UpdateView) (u : UpdateView) (part rest : List ℕ) (q : ReplicaView) → Confirms r us q
+      → length us < 1_000
+      → IsHeadOf q u → IsFrontOf part (put_text place u) → said.sent ≡ put_texts place us ++ part
+      → Acknowledges us said.given rest said.left
       → Posts place r said q (Some ends.Memory)

@@ -76,23 +76,28 @@ Judges (Err end) judged = (judged ≡ Err end) ⊎ (end ≡ ends.Memory)
 
 -- an update that was learnt, and the replica that this leaves; one that is refused leaves it as it was
 abbrev pub Takes : Result Taken SyncEnd → ReplicaView → UpdateView → ReplicaView → Type 0
-Takes (Ok taken) r u q = (refusal_end (answer_to r u) ≡ None) × (taken_word taken ≡ answer_word (answer_to r u)) × (q ≡ learnt r u)
+Takes (Ok taken) r u q = (refusal_end (answer_to r u) ≡ None) × (taken_word taken ≡ answer_word (answer_to r u))
+    × (q ≡ learnt r u)
 Takes (Err end) r u q = (Refuses r u end ⊎ (end ≡ ends.Memory)) × (q ≡ r)
 
 -- the head of a reply was read of a wire that held these bytes: it stands at the front of those and of the bytes given
 abbrev pub ReadsHead : Result ReplyHead SyncEnd → List ℕ → List ℕ → List ℕ → Option (List ℕ) → Type 0
 ReadsHead (Ok head) held given kept left = IsReplyDecided (replied head) (held ++ given) kept
 ReadsHead (Err end) held given kept left =
-    ((server sent : List ℕ) → EndsHead end (record { server = server; sent = sent; given = held ++ given; left = left })) ⊎ (end ≡ ends.Memory)
+    ((server sent : List ℕ)
+        → EndsHead end (record { server = server; sent = sent; given = held ++ given; left = left }))
+            ⊎ (end ≡ ends.Memory)
 
 -- a reply was read whole of a wire that held these bytes
 abbrev pub ReadsReply : Result ℕ SyncEnd → List ℕ → List ℕ → List ℕ → Option (List ℕ) → Type 0
 ReadsReply (Ok status) held given kept left = IsReply status (held ++ given) kept left
-ReadsReply (Err end) held given kept left = (EndsReply end (held ++ given) left × ((status : ℕ) → end ≢ ends.Peer status)) ⊎ (end ≡ ends.Memory)
+ReadsReply (Err end) held given kept left =
+    (EndsReply end (held ++ given) left × ((status : ℕ) → end ≢ ends.Peer status)) ⊎ (end ≡ ends.Memory)
 
 -- A stream of updates that goes on. Behind the head of its reply `passed` was taken as the body's, with this data in it; its
 -- reader has taken the first of the data and answered these updates, and the piece has the rest of the data.
-pub record StreamsOn (wire : WireView) (body : Body) (reader : Reading) (piece : PieceView) (us : List UpdateView) (content passed : List ℕ) : Type 0 where
+pub record StreamsOn (wire : WireView) (body : Body) (reader : Reading) (piece : PieceView) (us : List UpdateView)
+    (content passed : List ℕ) : Type 0 where
   pub taken : List ℕ
   pub content_is : content ≡ taken ++ piece.left
   pub has : HasTaken us reader taken
@@ -103,7 +108,8 @@ pub record StreamsOn (wire : WireView) (body : Body) (reader : Reading) (piece :
 
 -- a stream goes on, behind some updates
 abbrev pub IsGoing : Stream → Type 0
-IsGoing s = (us : List UpdateView) × (content : List ℕ) × (passed : List ℕ) × StreamsOn s.wire s.body s.reader s.piece us content passed
+IsGoing s = (us : List UpdateView) × (content : List ℕ) × (passed : List ℕ)
+    × StreamsOn s.wire s.body s.reader s.piece us content passed
 
 -- What a reader that has taken these bytes answers of those and of the ones that the piece has left; `all` is both. No answer
 -- is at hand, and all are taken; an update, and some are left; a fault; the limit; or want of memory. A piece has no end.
@@ -150,11 +156,15 @@ IsHeard (heards.Update u) wire body reader piece us content passed j =
 IsHeard heards.Whole wire body reader piece us content passed j =
     IsStream us content × (length content < most_bytes) × IsOver body.kind content passed wire.held j.left
 IsHeard heards.Cut wire body reader piece us content passed j =
-    HaveAll us content × ((IsOver body.kind content passed wire.held j.left × IsTorn content) ⊎ IsCutOff body.kind content passed wire.held j.left)
+    HaveAll us content
+        × ((IsOver body.kind content passed wire.held j.left × IsTorn content)
+            ⊎ IsCutOff body.kind content passed wire.held j.left)
 IsHeard heards.BadChunk wire body reader piece us content passed j = IsBadChunk body.kind us content passed
 IsHeard (heards.Fault f) wire body reader piece us content passed j = HasFault us (seen content) f
-IsHeard heards.ReadFault wire body reader piece us content passed j = HaveAll us content × HasBegun body.kind content passed × (wire.held ≡ [])
-IsHeard heards.Spent wire body reader piece us content passed j = HaveUpdates us (seen content) × (most_bytes ≤ length content)
+IsHeard heards.ReadFault wire body reader piece us content passed j = HaveAll us content
+    × HasBegun body.kind content passed × (wire.held ≡ [])
+IsHeard heards.Spent wire body reader piece us content passed j = HaveUpdates us (seen content)
+    × (most_bytes ≤ length content)
 IsHeard heards.Memory wire body reader piece us content passed j = Unit {0}
 
 -- which call failed, where what is heard says that one did
@@ -170,7 +180,8 @@ failing_heard heards.Memory = nothing_failed
 
 -- One call of a stream that goes on: the link gave these bytes; of them and of those that the wire held some were passed, and
 -- the data in them is more; and this is heard.
-pub record StreamsNext (heard : Heard) (old new : Stream) (us : List UpdateView) (content passed : List ℕ) (i j : Intake) (o p : Outflow) : Type 0 where
+pub record StreamsNext (heard : Heard) (old new : Stream) (us : List UpdateView) (content passed : List ℕ)
+    (i j : Intake) (o p : Outflow) : Type 0 where
   pub given : List ℕ
   pub used : List ℕ
   pub more : List ℕ
@@ -192,12 +203,16 @@ IsLast heards.Memory = Unit {0}
 
 -- the next data of a body was taken for the piece, all of whose bytes were used: some has come, and the stream goes on; or
 -- there is an answer, which is no update
-abbrev pub Refills : Option Heard → Stream → Stream → List UpdateView → List ℕ → List ℕ → Intake → Intake → Outflow → Outflow → Type 0
+abbrev pub Refills : Option Heard → Stream → Stream → List UpdateView → List ℕ → List ℕ → Intake → Intake → Outflow
+    → Outflow → Type 0
 Refills None old new us content passed i j o p =
-    (given : List ℕ) × (used : List ℕ) × (more : List ℕ) × Does [] given nothing_failed i j o p × (old.wire.held ++ given ≡ used ++ new.wire.held)
+    (given : List ℕ) × (used : List ℕ) × (more : List ℕ) × Does [] given nothing_failed i j o p
+        × (old.wire.held ++ given ≡ used ++ new.wire.held)
     × StreamsOn new.wire new.body new.reader new.piece us (content ++ more) (passed ++ used) × (more ≢ [])
-Refills (Some heard) old new us content passed i j o p = IsLast heard × StreamsNext heard old new us content passed i j o p
+Refills (Some heard) old new us content passed i j o p = IsLast heard
+    × StreamsNext heard old new us content passed i j o p
 
 -- an update costs a reader of a stream bytes that it may read, or bytes that it holds
 abbrev pub Costs : Reading → Reading → Type 0
-Costs old new = (new.read ≤ most_bytes) × ((old.read < new.read) ⊎ ((new.read ≡ old.read) × (length new.held < length old.held)))
+Costs old new = (new.read ≤ most_bytes)
+    × ((old.read < new.read) ⊎ ((new.read ≡ old.read) × (length new.held < length old.held)))

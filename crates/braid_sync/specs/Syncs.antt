@@ -29,11 +29,15 @@ IsCut kind content passed rest left = IsOver kind content passed rest left ⊎ I
 -- was held, before none of them it was, and no end is there; the reading ended before it was held.
 pub data Subscribes (place : Place) (r : ReplicaView) (said : Said) : ReplicaView → Option SyncEnd → Type 0 where
   not_begun : (end : SyncEnd) → Opens place r said (ended end) → Subscribes place r said r (Some end)
-  caught_up : (kind : BodyKind) (V : List (List ℕ)) (behind passed rest content : List ℕ) (us : List UpdateView) (q : ReplicaView)
-      → Opens place r said (opened kind V behind) → Hears kind behind r passed rest content us q → Awaits V r us → HasVersion q V
+  caught_up : (kind : BodyKind) (V : List (List ℕ)) (behind passed rest content : List ℕ) (us : List UpdateView)
+      (q : ReplicaView)
+      → Opens place r said (opened kind V behind) → Hears kind behind r passed rest content us q → Awaits V r us
+      → HasVersion q V
       → Subscribes place r said q None
-  fell_short : (kind : BodyKind) (V : List (List ℕ)) (behind passed rest content : List ℕ) (us : List UpdateView) (q : ReplicaView) (end : SyncEnd)
-      → Opens place r said (opened kind V behind) → Hears kind behind r passed rest content us q → Awaits V r us → ¬ (HasVersion q V)
+  fell_short : (kind : BodyKind) (V : List (List ℕ)) (behind passed rest content : List ℕ) (us : List UpdateView)
+      (q : ReplicaView) (end : SyncEnd)
+      → Opens place r said (opened kind V behind) → Hears kind behind r passed rest content us q → Awaits V r us
+      → ¬ (HasVersion q V)
       → EndsHearing (IsCut kind content passed rest said.left) kind passed rest content us q end
       → Subscribes place r said q (Some end)
 
@@ -61,7 +65,8 @@ pub data SyncText (place : Place) (r : ReplicaView) : List Said → ReplicaView 
   unaided : SyncText place r [] r ends.Memory
   cut_short : (said : Said) (q : ReplicaView) (end : SyncEnd) → IsTo place said → Subscribes place r said q (Some end)
       → SyncText place r (said ∷ []) q end
-  went_on : (said : Said) (saids : List Said) (m q : ReplicaView) (end : SyncEnd) → IsTo place said → Subscribes place r said m None
+  went_on : (said : Said) (saids : List Said) (m q : ReplicaView) (end : SyncEnd) → IsTo place said
+      → Subscribes place r said m None
       → PostsAll place m saids q end → SyncText place r (said ∷ saids) q end
 
 -- A sync over a dialer: it gained these talks, which tell what was said; the call that the end names failed, and no other;

@@ -90,7 +90,8 @@ pub record FailedToWrite (talks : List Talk) : Type 0 where
 -- which counts rose, when this failed: that of the call that failed, and no other
 abbrev pub FailedBy : Failing → List Talk → Dialing → Dialing → Type 0
 FailedBy nothing_failed talks old new = (new.faults ≡ old.faults) × AllByRecursion IsQuiet talks
-FailedBy dial_failed talks old new = (old.faults ≤ new.faults) × Rose old.faults new.faults × AllByRecursion IsQuiet talks
+FailedBy dial_failed talks old new = (old.faults ≤ new.faults) × Rose old.faults new.faults
+    × AllByRecursion IsQuiet talks
 FailedBy read_failed talks old new = (new.faults ≡ old.faults) × FailedToRead talks
 FailedBy write_failed talks old new = (new.faults ≡ old.faults) × FailedToWrite talks
 FailedBy print_failed talks old new = (new.faults ≡ old.faults) × AllByRecursion IsQuiet talks

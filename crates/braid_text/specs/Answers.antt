@@ -32,11 +32,14 @@ answer_to room H u = answer_in room (reverse H) u
 abbrev pub IsOver : Room → Room → Which → ℕ → ℕ → Type 0
 IsOver need room Resources n left = ⊥
 IsOver need room Versions n left = (n ≡ need.versions) × (left ≡ room.versions) × (left < n)
-IsOver need room Elements n left = (need.versions ≤ room.versions) × (n ≡ need.elements) × (left ≡ room.elements) × (left < n)
+IsOver need room Elements n left = (need.versions ≤ room.versions) × (n ≡ need.elements) × (left ≡ room.elements)
+    × (left < n)
 IsOver need room Deletions n left =
-    (need.versions ≤ room.versions) × (need.elements ≤ room.elements) × (n ≡ need.deletions) × (left ≡ room.deletions) × (left < n)
+    (need.versions ≤ room.versions) × (need.elements ≤ room.elements) × (n ≡ need.deletions) × (left ≡ room.deletions)
+        × (left < n)
 IsOver need room Width n left =
-    (need.versions ≤ room.versions) × (need.elements ≤ room.elements) × (need.deletions ≤ room.deletions) × (n ≡ need.width)
+    (need.versions ≤ room.versions) × (need.elements ≤ room.elements) × (need.deletions ≤ room.deletions)
+        × (n ≡ need.width)
     × (left ≡ room.width) × (left < n)
 
 -- there is room for all that is needed
@@ -53,7 +56,8 @@ IsAnswer room H u Known = Contains H u
 IsAnswer room H u (Clash v) = (v ≡ u.id) × Holds (graph_of H) v × ¬ (Contains H u)
 IsAnswer room H u (UnknownParent v) = ¬ (Holds (graph_of H) u.id) × IsLeastUnheld (graph_of H) u.parents v
 IsAnswer room H u (OutOfRange patch len) =
-    ¬ (Holds (graph_of H) u.id) × HoldsAll (graph_of H) u.parents × (first_past (text_at H u.parents) u.change ≡ Some patch)
+    ¬ (Holds (graph_of H) u.id) × HoldsAll (graph_of H) u.parents
+        × (first_past (text_at H u.parents) u.change ≡ Some patch)
     × (len ≡ length (text_at H u.parents))
 IsAnswer room H u (Full which need left) = MayFollow H u × IsOver (needs_of H u) room which need left
 IsAnswer room H u Memory = ¬ (Contains H u)

@@ -11,7 +11,8 @@ id_in u = u.id
 -- an update put among others by rising identifier, each identifier once
 abbrev pub with_update : UpdateView → List UpdateView → List UpdateView
 with_update u [] = u ∷ []
-with_update u (w ∷ ws) = if is_lt (id_cmp u.id w.id) then u ∷ w ∷ ws else (if is_eq (id_cmp u.id w.id) then w ∷ ws else w ∷ with_update u ws)
+with_update u (w ∷ ws) = if is_lt (id_cmp u.id w.id) then u ∷ w ∷ ws
+    else (if is_eq (id_cmp u.id w.id) then w ∷ ws else w ∷ with_update u ws)
 
 -- updates by rising identifier
 abbrev pub by_identifier : List UpdateView → List UpdateView

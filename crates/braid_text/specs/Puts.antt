@@ -30,7 +30,8 @@ insertions_at runs = sum_by run_count runs
 -- the runs' places are there, and their ordinals go on from n
 abbrev pub AreOver : List Row → ℕ → List Run → Type 0
 AreOver rows n [] = Unit {0}
-AreOver rows n (run ∷ runs) = MatchOption run.after (Unit {0}) (HasPlace rows) × (run.ordinal ≡ n) × AreOver rows (n + text_len run) runs
+AreOver rows n (run ∷ runs) = MatchOption run.after (Unit {0}) (HasPlace rows) × (run.ordinal ≡ n)
+    × AreOver rows (n + text_len run) runs
 
 -- each of these places is there
 abbrev pub AreThere : List Row → List At → Type 0
@@ -50,5 +51,6 @@ pub record Puts (vs : List Stamp) (rows : List Row) (d N : List (Node Key)) (n :
 
 -- whatever tree the old rows list, the new ones list that tree with the nodes of the ranges in their order
 abbrev pub ListsWithRuns : List Stamp → List Row → List Row → List Run → Type 0
-ListsWithRuns vs old new runs = (d N : List (Node Key)) (n : ℕ) (rs : List Patch) → Puts vs old d N n → AreRunsOf vs N n runs rs
+ListsWithRuns vs old new runs = (d N : List (Node Key)) (n : ℕ) (rs : List Patch) → Puts vs old d N n
+    → AreRunsOf vs N n runs rs
     → map (element_at vs) new ≡ map element_of (with_nodes key_cmp (nodes_at (next_key vs) N n rs) d)

@@ -30,7 +30,8 @@ same_change (Patches ps) (Patches qs) = pointwise same_patch ps qs
 
 -- whether two updates are the same
 abbrev pub same_update : UpdateView → UpdateView → Bool
-same_update u w = pointwise nat_eq u.id w.id && (pointwise (pointwise nat_eq) u.parents w.parents && same_change u.change w.change)
+same_update u w =
+    pointwise nat_eq u.id w.id && (pointwise (pointwise nat_eq) u.parents w.parents && same_change u.change w.change)
 
 -- the update with an identifier
 abbrev pub find_in : List ℕ → List UpdateView → Option UpdateView
@@ -46,7 +47,8 @@ first_missing (p ∷ ps) us = if has_version p (versions_in us) then first_missi
 abbrev pub needs_in : List UpdateView → UpdateView → Room
 needs_in us u =
     let v = version_in u (versions_in us) in
-    record { versions = 1; elements = length v.nodes; deletions = length v.deleted; width = length (frontier_of (graph_of (u ∷ us))) }
+    record { versions = 1; elements = length v.nodes; deletions = length v.deleted; width =
+        length (frontier_of (graph_of (u ∷ us))) }
 
 -- the first count, in the order of `Which`, of which more is needed than there is room
 abbrev pub first_full : Room → Room → Option Accept

@@ -43,7 +43,8 @@ abbrev pub IsKnownDeletion : List Stamp → RowDeletion → Type 0
 IsKnownDeletion vs d = (d.at.version < length vs) × (d.by < length vs)
 
 -- the graph is that of the history, which is legal and has few versions, and the document lists its versions, its nodes in reading order, and its deletions in whatever order
-pub record Stands (H : List UpdateView) (es : List GraphEntry) (vs : List Stamp) (rows : List Row) (ds : List RowDeletion) : Type 0 where
+pub record Stands (H : List UpdateView) (es : List GraphEntry) (vs : List Stamp) (rows : List Row)
+    (ds : List RowDeletion) : Type 0 where
   pub legal : IsLegal H
   pub few : length H ≤ 524288
   pub graph : es ≡ graph_of H
@@ -54,7 +55,8 @@ pub record Stands (H : List UpdateView) (es : List GraphEntry) (vs : List Stamp)
   pub known_deletions : (d : RowDeletion) → Contains ds d → IsKnownDeletion vs d
 
 -- an update may follow, and this is what it was resolved to
-pub record IsTakable (H : List UpdateView) (ds : List RowDeletion) (rows : List Row) (u : UpdateView) (resolved : Resolved) : Type 0 where
+pub record IsTakable (H : List UpdateView) (ds : List RowDeletion) (rows : List Row) (u : UpdateView)
+    (resolved : Resolved) : Type 0 where
   pub follows : MayFollow H u
   pub seen : (S : List Row) × IsSeenAt (graph_of H) u.parents ds rows S × IsResolved S u.change resolved
   pub level : resolved.level ≡ 1 + greatest_by (level_of (graph_of H)) u.parents

@@ -52,13 +52,15 @@ IsPassed vs rows first k = IfSome (slice_get rows k) (λ (r : Row). key_cmp (key
 
 -- row number k, if there is one, has no greater key
 abbrev pub IsNotPassed : List Stamp → List Row → At → ℕ → Type 0
-IsNotPassed vs rows first k = IfSome (slice_get rows k) (λ (r : Row). ¬ (key_cmp (key_at vs first) (key_at vs r.at) ≡ Less))
+IsNotPassed vs rows first k =
+    IfSome (slice_get rows k) (λ (r : Row). ¬ (key_cmp (key_at vs first) (key_at vs r.at) ≡ Less))
 
 -- the rows of a run as they are kept: nothing deletes them yet
 abbrev pub new_rows : ℕ → Option At → ℕ → List ℕ → List PlainRow
 new_rows version origin n [] = []
 new_rows version origin n (c ∷ cs) =
-    record { at = place version n; character = c; origin = origin; newest = None } ∷ new_rows version (Some (place version n)) (n + 1) cs
+    record { at = place version n; character = c; origin = origin; newest = None }
+        ∷ new_rows version (Some (place version n)) (n + 1) cs
 
 -- a deletion that is there is one of the place
 abbrev pub is_of_place : Option RowDeletion → At → Bool

@@ -52,7 +52,8 @@ next_key vs n = key_at vs (place (length vs - 1) n)
 -- the rows of a run: each further one has the one before it as its origin
 abbrev pub run_rows : ℕ → Option At → ℕ → List ℕ → List Row
 run_rows version origin n [] = []
-run_rows version origin n (c ∷ cs) = record { at = place version n; char = c; origin = origin } ∷ run_rows version (Some (place version n)) (n + 1) cs
+run_rows version origin n (c ∷ cs) =
+    record { at = place version n; char = c; origin = origin } ∷ run_rows version (Some (place version n)) (n + 1) cs
 
 -- some row is that of the place
 abbrev pub HasPlace : List Row → At → Type 0
@@ -87,11 +88,13 @@ PutsOne {A} old x new = (front : List A) × (back : List A) × (old ≡ front ++
 -- the place is that of the node at the end of this path; where there is none, the path is the root's
 abbrev pub IsOrigin : List Stamp → List (Node Key) → Option At → List Key → Type 0
 IsOrigin vs es after above =
-    MatchOption after (above ≡ []) (λ (at : At). (z : Node Key) × Member z es × (z.key ≡ key_at vs at) × (path_of z ≡ above))
+    MatchOption after (above ≡ []) (λ (at : At). (z : Node Key) × Member z es × (z.key ≡ key_at vs at)
+        × (path_of z ≡ above))
 
 -- what a run's place in the order rests on: the rows list a tree, the run's origin is its node at this path or the root, and
 -- the run's keys are greater than those of the path, and new
-pub record Inserts (vs : List Stamp) (rows : List Row) (es : List (Node Key)) (after : Option At) (above : List Key) (n : ℕ) : Type 0 where
+pub record Inserts (vs : List Stamp) (rows : List Row) (es : List (Node Key)) (after : Option At) (above : List Key)
+    (n : ℕ) : Type 0 where
   pub tree : IsTree key_cmp es
   pub listed : map (element_at vs) rows ≡ map element_of es
   pub origin : IsOrigin vs es after above

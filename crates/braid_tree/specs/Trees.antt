@@ -55,7 +55,8 @@ StartsSmaller R k (y ∷ ys) = R y.key k ≡ Less
 
 -- a tree in three parts for a new key below this path: up to the origin, the neighbours with greater keys, and the rest,
 -- which begins with a smaller key
-pub record IsCutFor {K : Type 0} (R : K → K → Ordering) (above : List K) (k : K) (front over tail : List (Node K)) : Type 0 where
+pub record IsCutFor {K : Type 0} (R : K → K → Ordering) (above : List K) (k : K)
+    (front over tail : List (Node K)) : Type 0 where
   pub tree : IsTree R (front ++ (over ++ tail))
   pub origin : EndsAt front above
   pub greater : AreGreater R k over

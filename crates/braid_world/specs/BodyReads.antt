@@ -47,7 +47,8 @@ EndsData nexts.Memory kind us content passed rest i j = Unit {0}
 
 -- A reading ended with this answer: the link gave these bytes; of them and of those that the wire held some were passed, and
 -- the data in them is more.
-pub record Ended (next : Next) (old new : BodyReading) (us : List UpdateView) (content passed : List ℕ) (i j : Intake) : Type 0 where
+pub record Ended (next : Next) (old new : BodyReading) (us : List UpdateView) (content passed : List ℕ)
+    (i j : Intake) : Type 0 where
   pub given : List ℕ
   pub used : List ℕ
   pub more : List ℕ
@@ -87,7 +88,8 @@ pub record Filled (old new : BodyReading) (us : List UpdateView) (content passed
   pub some : 0 < length new.piece.left
 
 -- what the next read of the body brings where the piece is used up: data, or the end
-abbrev pub Refilled : Option Next → BodyReading → BodyReading → List UpdateView → List ℕ → List ℕ → Intake → Intake → Type 0
+abbrev pub Refilled : Option Next → BodyReading → BodyReading → List UpdateView → List ℕ → List ℕ → Intake → Intake
+    → Type 0
 Refilled None old new us content passed i j = Filled old new us content passed i j
 Refilled (Some next) old new us content passed i j = Ended next old new us content passed i j
 

@@ -89,7 +89,8 @@ world_after B path by w e = stepped w (event_on B path by w e)
 
 -- a book gained what a history gained: nothing, or an entry of one update
 abbrev pub Gains : List ℕ → ℕ → List Entry → List Entry → List UpdateView → List UpdateView → Type 0
-Gains path by B C H K = ((C ≡ B) × (K ≡ H)) ⊎ ((u : UpdateView) × (C ≡ B ++ entry_at path by u ∷ []) × (K ≡ H ++ u ∷ []))
+Gains path by B C H K = ((C ≡ B) × (K ≡ H))
+    ⊎ ((u : UpdateView) × (C ≡ B ++ entry_at path by u ∷ []) × (K ≡ H ++ u ∷ []))
 
 -- where the subscription of a side, where there is one, was opened from
 abbrev pub opened_from : Option Side → Option (List (List ℕ))
@@ -116,7 +117,8 @@ status_made w next = option_map (λ (r : Answered). r.status) (slice_get next.re
 
 -- What the calls of an event leave of a book, of a path's history in it and of replicas, and what they tell, where the
 -- event makes this world of that one.
-pub record Leaves (path : List ℕ) (by : ℕ) (e : Event) (w next : World) (B C : List Entry) (replicas : List ReplicaView) (called : Called) : Type 0 where
+pub record Leaves (path : List ℕ) (by : ℕ) (e : Event) (w next : World) (B C : List Entry) (replicas : List ReplicaView)
+    (called : Called) : Type 0 where
   pub gains : Gains path by B C w.history next.history
   pub replicas_are : replicas ≡ replicas_of next.sides
   pub from : called.from ≡ from_of e next
@@ -160,7 +162,8 @@ after_put B e a = B
 -- a PUT, where there is one, was put to a path of a book, and this status was told
 abbrev pub Lands : List ℕ → ℕ → List Entry → List Entry → Option Posted → Option ℕ → Type 0
 Lands path by B C None status = (C ≡ B) × (status ≡ None)
-Lands path by B C (Some p) status = let e = entry_at path by p.update in let a = put_answer B e in (C ≡ after_put B e a) × (status ≡ Some (put_status a))
+Lands path by B C (Some p) status = let e = entry_at path by p.update in let a = put_answer B e in (C ≡ after_put B e a)
+    × (status ≡ Some (put_status a))
 
 -- where a Post makes a PUT, its update is the one that is told
 abbrev pub HeadIsPosted : Type 0

@@ -65,7 +65,8 @@ LearningBrings =
 abbrev pub SentIsLearnt : Type 0
 SentIsLearnt =
     (limits : Room) (H K : List UpdateView) (r q : ReplicaView) (us vs : List UpdateView) (u : UpdateView)
-    → IsBeside H K r → sent K (resume_of r) ≡ us ++ u ∷ vs → LearnsAll limits r us q → IsLearnt (learn_answer limits q u)
+    → IsBeside H K r → sent K (resume_of r) ≡ us ++ u ∷ vs → LearnsAll limits r us q
+    → IsLearnt (learn_answer limits q u)
 
 -- where all of it was learnt, the frontier of the front is held
 abbrev pub FrontierIsHeld : Type 0
@@ -77,7 +78,8 @@ FrontierIsHeld =
 abbrev pub FrontIsHad : Type 0
 FrontIsHad =
     (H K L : List UpdateView) (r q : ReplicaView)
-    → IsBeside H L r → IsFront K L → IsBrought L r q → HoldsAll (graph_of q.confirmed) (frontier K) → IsPart K q.confirmed
+    → IsBeside H L r → IsFront K L → IsBrought L r q → HoldsAll (graph_of q.confirmed) (frontier K)
+    → IsPart K q.confirmed
 
 -- as the front grows, all this stays
 pub record StaysBeside : Type 0 where
@@ -88,11 +90,13 @@ pub record StaysBeside : Type 0 where
 abbrev pub PutIsTaken : Type 0
 PutIsTaken =
     (H K : List UpdateView) (r q : ReplicaView) (u : UpdateView) (us : List UpdateView)
-    → IsBeside H K r → IsBrought K r q → q.unsent ≡ u ∷ us → (refusal_to K u ≡ Some accepts.Known) ⊎ (refusal_to K u ≡ None)
+    → IsBeside H K r → IsBrought K r q → q.unsent ≡ u ∷ us → (refusal_to K u ≡ Some accepts.Known)
+    ⊎ (refusal_to K u ≡ None)
 
 -- once the server has it, it goes to the confirmed ones, and the replica is brought on
 abbrev pub PutIsConfirmed : Type 0
 PutIsConfirmed =
     (H K : List UpdateView) (r q : ReplicaView) (u : UpdateView) (us : List UpdateView)
     → IsBeside H K r → IsBrought K r q → q.unsent ≡ u ∷ us → Holds (graph_of K) u.id
-    → (acked u.id q ≡ record { agent = q.agent; confirmed = q.confirmed ++ u ∷ []; unsent = us }) × IsBrought K r (acked u.id q)
+    → (acked u.id q ≡ record { agent = q.agent; confirmed = q.confirmed ++ u ∷ []; unsent = us })
+    × IsBrought K r (acked u.id q)

@@ -22,14 +22,16 @@ use Rattle.braid_world.specs.declared.reading_back.Last.TheVariants.{Head, Strea
 
 -- A subscription on a legal book, which begins at what is held at its first mark, and whose marks never fall. The path has no
 -- more than 1,000 heads at the first mark, which is a limit of each server.
-pub record IsSubscription (book : List Entry) (path : List ℕ) (from : List (List ℕ)) (n : ℕ) (marks : List ℕ) : Type 0 where
+pub record IsSubscription (book : List Entry) (path : List ℕ) (from : List (List ℕ)) (n : ℕ)
+    (marks : List ℕ) : Type 0 where
   pub legal : IsLegalBook book
   pub held : HoldsAll (graph_of (of_path (take n book) path)) from
   pub rising : NeverFall n marks
   pub narrow : length (frontier_of (graph_of (of_path (take n book) path))) ≤ 1_000
 
 -- What a link has left to give is told, and is a front of what a session writes for a subscription.
-pub record OffersFront (book : List Entry) (path : List ℕ) (from : List (List ℕ)) (n : ℕ) (marks : List ℕ) (stopped : Bool) (intake : Intake) : Type 0 where
+pub record OffersFront (book : List Entry) (path : List ℕ) (from : List (List ℕ)) (n : ℕ) (marks : List ℕ)
+    (stopped : Bool) (intake : Intake) : Type 0 where
   pub bytes : List ℕ
   pub told : intake.left ≡ Some bytes
   pub front : IsFront bytes (watch_text book path from n marks ++ last_chunk stopped)
@@ -63,14 +65,17 @@ EndsEarly last bytes old new = ⊥
 -- these bytes hold so many pieces of a subscription whole, behind its head
 abbrev pub HoldPieces : List Entry → List ℕ → List (List ℕ) → ℕ → List ℕ → List ℕ → ℕ → Type 0
 HoldPieces book path from n marks bytes j =
-    IsFront (subscription_head (take n book) path ++ flat_map piece_text (take j (watch_pieces book path from n marks))) bytes
+    IsFront (subscription_head (take n book) path
+        ++ flat_map piece_text (take j (watch_pieces book path from n marks))) bytes
 
 -- What is read of a front of a subscription's bytes. The updates are a front of what is sent up to the last mark. The reading
 -- came to the end of the bytes, and then the updates begin with those of all pieces that the bytes hold whole; or it ended
 -- earlier. So there is no fault of the stream, and no refusal of the head.
-pub record ReadsFront (book : List Entry) (path : List ℕ) (from : List (List ℕ)) (n : ℕ) (marks bytes : List ℕ) (heard : Heard) (old new : ℕ) : Type 0 where
+pub record ReadsFront (book : List Entry) (path : List ℕ) (from : List (List ℕ)) (n : ℕ) (marks bytes : List ℕ)
+    (heard : Heard) (old new : ℕ) : Type 0 where
   pub front : IsFront heard.updates (sent_of book path from (last_mark n marks))
-  pub ends : EndsWhole heard.last heard.updates (subscription_head (take n book) path) bytes ⊎ EndsEarly heard.last bytes old new
+  pub ends : EndsWhole heard.last heard.updates (subscription_head (take n book) path) bytes
+      ⊎ EndsEarly heard.last bytes old new
   pub whole : EndsWhole heard.last heard.updates (subscription_head (take n book) path) bytes
       → (j : ℕ) → HoldPieces book path from n marks bytes j
       → IsFront (updates_in (take j (watch_pieces book path from n marks))) heard.updates

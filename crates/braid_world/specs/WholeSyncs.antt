@@ -37,7 +37,8 @@ AreServed s book low (said ∷ saids) =
 -- A server that has PUTs and subscriptions serves the links of a sync over one legal history. At the first mark of all, n, the
 -- path has at most 1,000 heads, which is a limit of each server; and the replica stands beside the path's history, of which it
 -- first sees what that mark has.
-pub record ServesLinks (s : Serving) (book : List Entry) (n : ℕ) (place : Place) (r : ReplicaView) (first : Said) (others : List Said) : Type 0 where
+pub record ServesLinks (s : Serving) (book : List Entry) (n : ℕ) (place : Place) (r : ReplicaView) (first : Said)
+    (others : List Said) : Type 0 where
   pub puts : s.puts ≡ true
   pub subscriptions : s.subscriptions ≡ true
   pub legal : IsLegalBook book
