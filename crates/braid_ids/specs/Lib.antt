@@ -4,3 +4,4 @@ pub mod Frontiers
 pub mod MarkSets
 pub mod Pieces
 pub mod Agents
+pub mod Kept

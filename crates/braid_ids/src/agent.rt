@@ -112,7 +112,7 @@ impl Agent {
         let mut bytes = Vec::from_slice(alloc, self.bytes())?;
         bytes.push(b'-')?;
         bytes.extend_from_slice(Buffer::new().format(k).as_bytes())?;
-        Ok(Id::from_bytes(bytes))
+        Id::from_bytes(alloc, &bytes)
     }
 
     /// The number of the version whose identifier this is, where it is one of the agent's: from 1, and without

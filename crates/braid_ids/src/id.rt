@@ -4,6 +4,7 @@ ghost use Rattle.std.specs.Cmp.Lexicographic.{slice_cmp};
 ghost use Rattle.braid_ids.specs.Identifiers.{IsIdentifier, IsIdFault, spelled_id};
 
 use crate::bytes::Bytes;
+use crate::id_bytes::IdBytes;
 use crate::memory::Memory;
 use std::alloc::Global;
 use std::cmp::Ordering;
@@ -13,9 +14,11 @@ use std::marker::Model;
 const LONGEST: usize = 128;
 
 /// The identifier of a version: 1 to 128 bytes from 0x20 to 0x7E. Identifiers are ordered by their bytes.
+///
+/// One of at most 22 bytes takes 24 bytes, and none beside them.
 #[derive(Debug, Drop)]
 pub struct Id {
-    bytes: Vec<u8>,
+    bytes: IdBytes,
 }
 
 impl Model for Id {
@@ -24,9 +27,9 @@ impl Model for Id {
 
     ghost Value = { List ℕ };
 
-    ghost view = { λ id. id.bytes.items };
+    ghost view = { λ id. id.bytes };
 
-    ghost invariant = { λ id. IsIdentifier id.bytes.items };
+    ghost invariant = { λ id. IsIdentifier id.bytes };
 }
 
 /// Why bytes are no identifier: the first of these that holds, in this order.
@@ -66,18 +69,21 @@ impl Id {
                 });
             }
         }
-        match Vec::from_slice(alloc, bytes) {
+        match IdBytes::of(alloc, bytes) {
             Ok(bytes) => Ok(Id { bytes }),
             Err(_) => Err(IdFault::Memory),
         }
     }
 
     /// The identifier of bytes that are known to be one.
-    pub(crate) fn from_bytes(bytes: Vec<u8>) -> Id
-        requires { IsIdentifier bytes.items }
-        ensures value { result ≡ bytes.items }
+    ///
+    /// Errors: `Memory` where there was none for a copy.
+    pub(crate) fn from_bytes(alloc: Global, bytes: &[u8]) -> Result<Id, Memory>
+        requires { IsIdentifier bytes.now }
+        ensures value { IfOk result (λ id. id ≡ bytes.now) }
     {
-        Id { bytes }
+        let bytes = IdBytes::of(alloc, bytes)?;
+        Ok(Id { bytes })
     }
 
     /// The bytes, lent as a slice. It takes no memory.
@@ -85,7 +91,7 @@ impl Id {
         ensures value { result.now ≡ self.now }
         ensures valid { IsIdentifier self.now }
     {
-        self.bytes.as_slice()
+        self.bytes.get()
     }
 
     /// The same identifier once more.
@@ -94,7 +100,7 @@ impl Id {
     pub fn copy(&self, alloc: Global) -> Result<Id, Memory>
         ensures ok { IfOk result (λ id. id ≡ self.now) }
     {
-        let bytes = Vec::from_slice(alloc, self.bytes.as_slice())?;
+        let bytes = IdBytes::of(alloc, self.bytes.get())?;
         Ok(Id { bytes })
     }
 

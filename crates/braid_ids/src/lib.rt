@@ -12,6 +12,7 @@ mod agent;
 mod bytes;
 mod frontier;
 mod id;
+mod id_bytes;
 pub mod laws;
 mod list_bytes;
 mod marks;
