@@ -1,12 +1,12 @@
 -- The flags that rising ranges stand for: which are set, and how many ranges they show.
-use Rattle.std.proofs.Common.{◌≡◌, ◌↔◌, ◌⊎◌, ℕ, suc, zero, ◌+◌, ◌-◌, ◌<◌, ◌≤◌, Bool, true, false, List, [], ◌∷◌, ◌++◌, length, replicate, get_or, sym, subst, ◌∙◌, inl, inr, arith, refl, length-append}
+use Rattle.std.proofs.Common.{◌≡◌, ◌↔◌, ◌⊎◌, ℕ, suc, zero, ◌+◌, ◌-◌, ◌<◌, ◌≤◌, ◌^◌, Bool, true, false, List, [], ◌∷◌, ◌++◌, length, replicate, get_or, sym, subst, ◌∙◌, inl, inr, arith, refl, length-append}
 use Rattle.std.proofs.lemmas.Bool.{cases_lt}
 use Rattle.std.proofs.lemmas.List.{length-replicate, get_or-replicate, get_or_append_left, get_or-append_right}
 use Rattle.std.proofs.Math.ListN.{get_or-eq_default}
 use Rattle.braid_ids.specs.declared.piece.Piece.{Piece}
 use Rattle.braid_ids.specs.MarkSets.{IsMarked, pieces_after, pieces_of}
 use Rattle.braid_ids.specs.Pieces.{IsIn, ArePieces, EndWithin, AreAll, KeepPieces, with_piece, flags_in}
-use Rattle.braid_ids.proofs.Ranges.{Within, rise_lower, in_from, rise_with, within_with, in_with}
+use Rattle.braid_ids.proofs.Ranges.{Within, within_more, rise_lower, in_from, rise_with, within_with, in_with}
 
 pub length_flags : (low size : ℕ) (ps : List Piece) → low ≤ size → ArePieces low ps → EndWithin size ps → low + length (flags_in low size ps) ≡ size
 length_flags low size [] l r w = omega (arith, length-replicate (size - low) false)
@@ -116,3 +116,13 @@ all_marked size ps keep =
       λ all. λ n l. (marks_in size ps n keep).1 (all n (omega arith)),
       λ all. λ n l. (marks_in size ps n keep).0 (all n (omega arith)),
     )
+
+-- ranges of a set of numbers below a greater size
+pub keep_more : (size more : ℕ) (ps : List Piece) → size ≤ more → more < 2 ^ 32 → KeepPieces size ps → KeepPieces more ps
+keep_more size more ps l small keep = record { rise = keep.rise; within = within_more size more ps l keep.within; small = small }
+
+pub marks_kept : (size more : ℕ) (ps : List Piece) → KeepPieces size ps → KeepPieces more ps → (n : ℕ) → IsMarked (flags_in 0 more ps) n ↔ IsMarked (flags_in 0 size ps) n
+marks_kept size more ps old new n =
+    let a = marks_in size ps n old in
+    let b = marks_in more ps n new in
+    (λ m. a.1 (b.0 m), λ m. b.1 (a.0 m))

@@ -205,6 +205,17 @@ found_at low (p ∷ ps) n (suc k) d r l below above =
       λ le. inr (h.1 le),
     )
 
+-- a number of a range is in one
+pub in_at : (ps : List Piece) (n k : ℕ) (d : Piece) → k < length ps → (get_or ps k d).from ≤ n → n < (get_or ps k d).to → IsIn ps n
+in_at [] n k d l from to = absurd (omega arith)
+in_at (p ∷ ps) n zero d l from to = inl (from, to)
+in_at (p ∷ ps) n (suc k) d l from to = inr (in_at ps n k d (omega arith) from to)
+
+-- all numbers of ranges are below a greater size
+pub within_more : (size more : ℕ) (ps : List Piece) → size ≤ more → EndWithin size ps → EndWithin more ps
+within_more size more [] l w = tt
+within_more size more (p ∷ ps) l w = (omega (arith, w.0), within_more size more ps l w.1)
+
 -- a number at or above all ends is in no range
 pub found_nowhere : (ps : List Piece) (n : ℕ) (d : Piece) → ((i : ℕ) → i < length ps → (get_or ps i d).to ≤ n) → IsIn ps n → ⊥
 found_nowhere [] n d below i = i

@@ -66,6 +66,30 @@ impl Marks {
         Ok(())
     }
 
+    /// The same set once more.
+    ///
+    /// Errors: `Memory` where there was none for the copy.
+    pub fn copy(&self, alloc: Global) -> Result<Marks, Memory>
+        ensures ok { IfOk result (λ marks. marks ≡ self.now) }
+    {
+        let pieces = Vec::from_slice(alloc, self.pieces.as_slice())?;
+        Ok(Marks {
+            pieces,
+            size: self.size,
+            rate: self.rate,
+            alloc,
+        })
+    }
+
+    /// Raises the size: the numbers from the old size on are not in the set. It takes no memory and constant time.
+    pub fn widen(&mut self, size: u32)
+        requires within { length self.old ≤ size }
+        ensures size { length self.new ≡ size }
+        ensures kept { (n : ℕ) → IsMarked self.new n ↔ IsMarked self.old n }
+    {
+        self.size = size;
+    }
+
     /// Whether the number is in the set; no number from the size on is. It takes no memory, and bisects the ranges.
     pub fn has(&self, n: u32) -> bool
         ensures has { IsTrue result ↔ IsMarked self.now n }

@@ -80,21 +80,35 @@ pub fn add_among(alloc: Global, pieces: &[Piece], piece: Piece) -> Result<Vec<Pi
     Ok(all)
 }
 
-/// Whether a number is in one of rising ranges: in the first one or before it, or near where it is looked for first, or
-/// else by bisection.
+/// Whether a number is in one of rising ranges: where it is looked for first, in the first one or before it, near where it
+/// is looked for first, or else by bisection.
 pub fn is_in(pieces: &[Piece], n: u32, rate: u64) -> bool
     requires rise { ArePieces 0 pieces.now }
     ensures is_in { IsTrue result ↔ IsIn pieces.now n }
 {
-    let at = ended_by(pieces, n, rate);
+    let near = guess(n, rate);
+    if has_at(pieces, near, n) {
+        return true;
+    }
+    let at = ended_by(pieces, n, near);
     match pieces.get(at) {
         Some(p) => p.from <= n,
         None => false,
     }
 }
 
-/// How many of rising ranges end at a number or below it.
-fn ended_by(pieces: &[Piece], n: u32, rate: u64) -> usize
+/// Whether range number `at`, if there is one, has a number.
+fn has_at(pieces: &[Piece], at: usize, n: u32) -> bool
+    ensures has { IsTrue result → IsIn pieces.now n }
+{
+    match pieces.get(at) {
+        Some(p) => p.from <= n && n < p.to,
+        None => false,
+    }
+}
+
+/// How many of rising ranges end at a number or below it: a look for it begins at `near`.
+fn ended_by(pieces: &[Piece], n: u32, near: usize) -> usize
     requires rise { ArePieces 0 pieces.now }
     ensures before { (k : ℕ) (d : Piece) → k < result → k < length pieces.now → (slice_index_or pieces.now k d).to ≤ n }
     ensures behind { (d : Piece) → result < length pieces.now → n < (slice_index_or pieces.now result d).to }
@@ -102,7 +116,6 @@ fn ended_by(pieces: &[Piece], n: u32, rate: u64) -> usize
     if is_end(pieces, 0, n) {
         return 0;
     }
-    let near = guess(n, rate);
     if is_end(pieces, near, n) {
         return near;
     }
