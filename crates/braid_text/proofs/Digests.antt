@@ -1,25 +1,18 @@
 -- Updates by rising identifier: they are those of the history, and do not depend on the order of arrival.
-use Rattle.std.proofs.Common.{◌≡◌, ◌↔◌, ℕ, zero, suc, ◌+◌, ◌≤◌, List, [], ◌∷◌, ◌++◌, Bool, true, false, cond, Option, Some, None, length, map, take, reverse, slice_get, get_or, refl, sym, ap, subst, ◌∙◌, inl, inr, ◌⊎◌, arith}
+use Rattle.std.proofs.Common.{◌≡◌, ◌↔◌, ℕ, List, [], ◌∷◌, Bool, true, false, cond, map, reverse, refl, sym, ap, subst, ◌∙◌, inl, inr, ◌⊎◌}
 use Rattle.std.specs.List.{Contains}
-use Rattle.std.specs.Option.{option_map}
 use Rattle.std.specs.Ordering.{is_lt, is_eq}
-use Rattle.std.proofs.lemmas.Option.{none-some, same_Some, slice_get-map, slice_get-get_or, slice_get_within}
 use Rattle.braid_ids.specs.Identifiers.{id_cmp}
 use Rattle.braid_ids.specs.Frontiers.{IsRising, with_id, rising_ids}
 use Rattle.braid_ids.proofs.Inserted.{rises_ids, rising_members}
 use Rattle.braid_ids.proofs.Rising.{rising_same}
-use Rattle.braid_graph.proofs.Kept.{take_next}
 use Rattle.braid_change.specs.Updates.{UpdateView}
 use Rattle.braid_change.specs.Spellings.{digest_of}
 use Rattle.braid_tree.specs.Trees.{Member}
 use Rattle.braid_rebase.proofs.Members.{contains_member, member_contains, member_map, member_from_map, in_log}
-use Rattle.braid_text.specs.Histories.{IsLegal, SameGraph, graph_of}
+use Rattle.braid_text.specs.Histories.{IsLegal, SameGraph}
 use Rattle.braid_text.specs.Digested.{id_in, with_update, by_identifier, digest_at}
-use Rattle.std.proofs.lemmas.List.{take_all, length-map}
-use Rattle.braid_graph.specs.Entries.{GraphEntry, Holds, HoldsAll, ids_of}
 use Rattle.braid_text.proofs.Held.{one_update}
-use Rattle.braid_text.proofs.Logs.{has_holds}
-use Rattle.braid_text.proofs.Taking.{held_number, member_number}
 
 with_ids : (u : UpdateView) (ws : List UpdateView) → map id_in (with_update u ws) ≡ with_id u.id (map id_in ws)
 with_ids u [] = refl
@@ -67,7 +60,7 @@ pub ordered_rises : (H : List UpdateView) → IsRising (map id_in (by_identifier
 ordered_rises H = subst IsRising (sym (ordered_ids H)) (rises_ids (map id_in H))
 
 -- two lists with the same identifiers, whose members do not differ under one, are the same
-same_by_ids : (xs ys : List UpdateView) → map id_in xs ≡ map id_in ys → ((x y : UpdateView) → Member x xs → Member y ys → x.id ≡ y.id → x ≡ y) → xs ≡ ys
+pub same_by_ids : (xs ys : List UpdateView) → map id_in xs ≡ map id_in ys → ((x y : UpdateView) → Member x xs → Member y ys → x.id ≡ y.id → x ≡ y) → xs ≡ ys
 same_by_ids [] [] e f = refl
 same_by_ids [] (y ∷ ys) e f = cc
 same_by_ids (x ∷ xs) [] e f = cc
@@ -94,43 +87,3 @@ ordered_same H K lh lk same = same_by_ids (by_identifier H) (by_identifier K) (o
 
 pub same_digest : (H K : List UpdateView) → IsLegal H → IsLegal K → SameGraph H K → digest_at H ≡ digest_at K
 same_digest H K lh lk same = ap digest_of (ordered_same H K lh lk same)
-
--- the update that has an identifier of the history is the one in its place
-pub ordered_next : (H : List UpdateView) → IsLegal H → (i : ℕ) (item : UpdateView) → Member item H → slice_get (rising_ids (map id_in H)) i ≡ Some item.id → take (i + 1) (by_identifier H) ≡ take i (by_identifier H) ++ item ∷ []
-ordered_next H legal i item m at = go (slice_get (by_identifier H) i) refl
-  where
-    ids : option_map id_in (slice_get (by_identifier H) i) ≡ Some item.id
-    ids = sym (slice_get-map id_in (by_identifier H) i) ∙ ap (λ (t : List (List ℕ)). slice_get t i) (ordered_ids H) ∙ at
-
-    number : (xs : List UpdateView) (n : ℕ) (x : UpdateView) → slice_get xs n ≡ Some x → Member x xs
-    number [] n x e = absurd (none-some x e)
-    number (y ∷ xs) zero x e = inl (same_Some y x e)
-    number (y ∷ xs) (suc n) x e = inr (number xs n x e)
-
-    go : (o : Option UpdateView) → slice_get (by_identifier H) i ≡ o → take (i + 1) (by_identifier H) ≡ take i (by_identifier H) ++ item ∷ []
-    go None e = absurd (none-some item.id (ap (option_map id_in) (sym e) ∙ ids))
-    go (Some w) e =
-        let same : w ≡ item = one_update (reverse H) legal w item (in_log H w (member_contains H w (ordered_there H w (number (by_identifier H) i w e)))) (in_log H item (member_contains H item m)) (same_Some w.id item.id (ap (option_map id_in) (sym e) ∙ ids)) in
-        take_next (by_identifier H) i w e ∙ ap (λ (x : UpdateView). take i (by_identifier H) ++ x ∷ []) same
-
--- all of them are taken where as many are as there are identifiers
-pub ordered_all : (H : List UpdateView) (i : ℕ) (ids : List (List ℕ)) → ids ≡ rising_ids (map id_in H) → length ids ≤ i → take i (by_identifier H) ≡ by_identifier H
-ordered_all H i ids is l = take_all i (by_identifier H) (omega (arith, l, ap length is, ap length (ordered_ids H), length-map (by_identifier H) id_in))
-
--- their identifiers are held
-pub ordered_held : (H : List UpdateView) (es : List GraphEntry) → es ≡ graph_of H → (ids : List (List ℕ)) → ids ≡ rising_ids (map id_in H) → HoldsAll es ids
-ordered_held H es same ids is v c = subst (λ (t : List GraphEntry). Holds t v) (sym same) (go (member_from_map id_in v H (contains_member (map id_in H) v ((rising_members (map id_in H) v).0 (subst (λ (t : List (List ℕ)). Contains t v) is c)))))
-  where
-    go : (u : UpdateView) × Member u H × (u.id ≡ v) → Holds (graph_of H) v
-    go (u, m, e) = subst (Holds (graph_of H)) e (has_holds H u.id (u, m, refl))
-
--- the update that was read is the next
-pub ordered_item : (H : List UpdateView) (es : List GraphEntry) → es ≡ graph_of H → IsLegal H → (i n : ℕ) (ids : List (List ℕ)) (v : List ℕ) (d : UpdateView) → ids ≡ rising_ids (map id_in H) → slice_get ids i ≡ Some v → slice_get (ids_of es) n ≡ Some v
-    → take (i + 1) (by_identifier H) ≡ take i (by_identifier H) ++ get_or H n d ∷ []
-ordered_item H es same legal i n ids v d is at found = go (held_number H v n (ap (λ (t : List GraphEntry). slice_get (ids_of t) n) (sym same) ∙ found))
-  where
-    go : (w : UpdateView) × (slice_get H n ≡ Some w) × (w.id ≡ v) → take (i + 1) (by_identifier H) ≡ take i (by_identifier H) ++ get_or H n d ∷ []
-    go (w, e, f) =
-        let here : slice_get H n ≡ Some (get_or H n d) = slice_get-get_or H n d (slice_get_within H n w e) in
-        let g : w ≡ get_or H n d = same_Some w (get_or H n d) (sym e ∙ here) in
-        ordered_next H legal i (get_or H n d) (member_number H n (get_or H n d) here) (ap (λ (t : List (List ℕ)). slice_get t i) (sym is) ∙ at ∙ ap Some (sym f ∙ ap id_in g))

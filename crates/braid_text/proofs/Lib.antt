@@ -17,4 +17,5 @@ pub mod Viewed
 pub mod Grown
 pub mod Taking
 pub mod Digests
+mod Sorted
 pub mod Insertions

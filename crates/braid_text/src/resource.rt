@@ -109,11 +109,11 @@ impl Resource {
 
     /// The digest of all updates: SHA-256 (FIPS 180-4) of their canonical spellings, by rising identifier.
     ///
-    /// Errors: `Memory` where there was none for copies of the identifiers or for a spelling.
+    /// Errors: `Memory` where there was none for a list of references to the updates or for a spelling.
     pub fn digest(&self, alloc: Global) -> Result<[u8; 32], Memory>
         ensures ok { IfOk result (λ digest. digest ≡ digest_at self.now) }
     {
-        digest(alloc, &self.history.updates, &self.history.graph)
+        digest(alloc, &self.history.updates)
     }
 
     /// The update with this arrival number, counted from 0. It takes no memory.
