@@ -36,10 +36,10 @@ IsOver need room Elements n left = (need.versions ≤ room.versions) × (n ≡ n
     × (left < n)
 IsOver need room Deletions n left =
     (need.versions ≤ room.versions) × (need.elements ≤ room.elements) × (n ≡ need.deletions) × (left ≡ room.deletions)
-        × (left < n)
+    × (left < n)
 IsOver need room Width n left =
     (need.versions ≤ room.versions) × (need.elements ≤ room.elements) × (need.deletions ≤ room.deletions)
-        × (n ≡ need.width)
+    × (n ≡ need.width)
     × (left ≡ room.width) × (left < n)
 
 -- there is room for all that is needed
@@ -57,7 +57,7 @@ IsAnswer room H u (Clash v) = (v ≡ u.id) × Holds (graph_of H) v × ¬ (Contai
 IsAnswer room H u (UnknownParent v) = ¬ (Holds (graph_of H) u.id) × IsLeastUnheld (graph_of H) u.parents v
 IsAnswer room H u (OutOfRange patch len) =
     ¬ (Holds (graph_of H) u.id) × HoldsAll (graph_of H) u.parents
-        × (first_past (text_at H u.parents) u.change ≡ Some patch)
+    × (first_past (text_at H u.parents) u.change ≡ Some patch)
     × (len ≡ length (text_at H u.parents))
 IsAnswer room H u (Full which need left) = MayFollow H u × IsOver (needs_of H u) room which need left
 IsAnswer room H u Memory = ¬ (Contains H u)

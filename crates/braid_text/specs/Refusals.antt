@@ -47,8 +47,13 @@ first_missing (p ∷ ps) us = if has_version p (versions_in us) then first_missi
 abbrev pub needs_in : List UpdateView → UpdateView → Room
 needs_in us u =
     let v = version_in u (versions_in us) in
-    record { versions = 1; elements = length v.nodes; deletions = length v.deleted; width =
-        length (frontier_of (graph_of (u ∷ us))) }
+    record {
+      versions = 1;
+      elements = length v.nodes;
+      deletions = length v.deleted;
+      width =
+          length (frontier_of (graph_of (u ∷ us)));
+    }
 
 -- the first count, in the order of `Which`, of which more is needed than there is room
 abbrev pub first_full : Room → Room → Option Accept

@@ -60,8 +60,14 @@ abbrev pub version_in : UpdateView → List Version → Version
 version_in u vs =
     let S = seen_in vs u.parents in
     let level = 1 + greatest_level vs u.parents in
-    record { id = u.id; parents = u.parents; level = level; nodes = added_nodes level u.id S u.change; deleted =
-        deleted_keys S u.change }
+    record {
+      id = u.id;
+      parents = u.parents;
+      level = level;
+      nodes = added_nodes level u.id S u.change;
+      deleted =
+          deleted_keys S u.change;
+    }
 
 -- the versions of updates
 abbrev pub versions_in : List UpdateView → List Version
