@@ -13,11 +13,14 @@ use Rattle.braid_hall.proofs.Places.{at_inside, at_snoc_place}
 use Rattle.braid_hall.proofs.Members.{among_none, among_more, among_last, among_split, without_keeps, without_has}
 use Rattle.braid_hall.proofs.Histories.{prefix_itself, prefix_of_prefix, all_cons}
 
-pub all_zip_append : {X : Type 0} (R : X → X → Type 0) (a b c d : List X) → AllZip R a b → AllZip R c d → AllZip R (a ++ c) (b ++ d)
-all_zip_append R [] [] c d p q = q
-all_zip_append R [] (y ∷ ys) c d p q = absurd p
-all_zip_append R (x ∷ xs) [] c d p q = absurd p
-all_zip_append R (x ∷ xs) (y ∷ ys) c d p q = (p.0, all_zip_append R xs ys c d p.1 q)
+-- lists that are as long, and agree at each place
+pub zip_each : {X : Type 0} (R : X → X → Type 0) (xs ys : List X) → length ys ≡ length xs
+    → ((k : ℕ) (d : X) → k < length xs → R (get_or xs k d) (get_or ys k d)) → AllZip R xs ys
+zip_each R [] [] long h = tt
+zip_each R [] (y ∷ ys) long h = absurd (cc long)
+zip_each R (x ∷ xs) [] long h = absurd (cc long)
+zip_each R (x ∷ xs) (y ∷ ys) long h =
+    (h 0 x (omega arith), zip_each R xs ys (omega (arith, long)) (λ k d inside. h (suc k) d (omega (arith, inside))))
 
 empty_of : (l : List ℕ) → ((x : ℕ) → Contains l x → ⊥) → l ≡ []
 empty_of [] h = refl

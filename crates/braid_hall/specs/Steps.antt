@@ -49,7 +49,7 @@ module _ {B E : Type 0} where
   abbrev pub found : (B → List E) → (E → ℕ) → Step (Option B) → Holder B E → ℕ → Holder B E → Type 0
   found entries by st m n m' =
       (m.0.ticket ≡ Some n
-          → (b : B) × Finds by m.0 (entries b) × (m' ≡ (after_find m.0 (entries b), (0, Some b) ∷ m.1)))
+      → (b : B) × Finds by m.0 (entries b) × (m' ≡ (after_find m.0 (entries b), (0, Some b) ∷ m.1)))
       × (m.0.ticket ≢ Some n → m' ≡ m)
 
   -- a fetch-and-add on the ticket that is served, which ends a turn

@@ -13,7 +13,6 @@
 
 mod annals;
 mod hall;
-mod jobs;
 pub mod laws;
 mod many;
 mod pass;
@@ -24,7 +23,6 @@ mod view;
 
 pub use annals::Annals;
 pub use hall::Hall;
-pub use jobs::{Job, run_all};
 pub use many::{close_all, join_all, split_all};
 pub use pass::Pass;
 pub use turn::Turn;

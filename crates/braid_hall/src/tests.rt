@@ -1,11 +1,11 @@
 ghost use Rattle.std.specs.Prelude.{◌≡◌, ℕ, ◌<◌, false};
 ghost use Rattle.braid_hall.specs.Many.{AreAway, KeepsPass};
 
-use crate::{Annals, Hall, Job, Pass, Turn, close_all, run_all, split_all};
+use crate::{Annals, Hall, Pass, Turn, close_all, split_all};
 use braid_ids::Memory;
 use std::alloc::Global;
 use std::sync::Wait;
-use std::thread::Threads;
+use std::thread::{Threads, for_each_mut};
 
 /// How many turns each thread takes.
 const TURNS: u32 = 2_000;
@@ -53,20 +53,16 @@ fn note_turn<R: Wait>(rt: &R, hall: &Hall<Notes>, pass: &mut Pass<Notes>, turn: 
     added
 }
 
-impl Job for Pass<Notes> {
-    type Place = Hall<Notes>;
-
-    ghost ready = { λ hall p. (p.hall ≡ hall) × (p.held ≡ false) };
-
-    ghost done = { λ hall p q. KeepsPass p q };
-
-    fn run<R: Wait>(&mut self, rt: &R, place: &Hall<Notes>) {
-        for turn in 0..TURNS {
-            if self.reserve(1).is_err() {
-                return;
-            }
-            note_turn(rt, place, self, turn);
+/// The turns of one thread: each adds a note, as long as there is memory for its mark.
+fn take_turns<R: Wait>(rt: &R, hall: &Hall<Notes>, pass: &mut Pass<Notes>)
+    requires idle { (pass.old.hall ≡ hall.now) × (pass.old.held ≡ false) }
+    ensures keeps { KeepsPass pass.old pass.new }
+{
+    for turn in 0..TURNS {
+        if pass.reserve(1).is_err() {
+            return;
         }
+        note_turn(rt, hall, pass, turn);
     }
 }
 
@@ -76,10 +72,15 @@ fn run_threads<R: Threads + Wait + Sync>(
     root: &Pass<Notes>,
     passes: &mut [Pass<Notes>],
 )
-    requires { AreAway hall.now root.now passes.old }
-    ensures { AreAway hall.now root.now passes.new }
+    requires away { AreAway hall.now root.now passes.old }
+    ensures away { AreAway hall.now root.now passes.new }
 {
-    run_all(rt, hall, passes);
+    let threads = passes.len().max(1);
+    let turns = |_place: usize, pass: &mut Pass<Notes>|
+        requires { (pass.old.hall ≡ hall.now) × (pass.old.held ≡ false) }
+        ensures { KeepsPass pass.old pass.new }
+    { take_turns(rt, hall, pass) };
+    for_each_mut(rt, passes, threads, &turns);
 }
 
 /// Whether the notes of one pass are those of its turns, in order.
