@@ -1,6 +1,6 @@
 -- A text is cut at patches that are joined or not, and piece by piece.
 use Rattle.std.proofs.Common.{◌≡◌, ◌==◌, ℕ, ◌+◌, ◌-◌, ◌<◌, ◌≤◌, List, [], ◌∷◌, ◌++◌, Bool, true, false, cond, nat_le, ◌&&◌, refl, sym, ap, subst, ◌∙◌, arith, take, drop, length, get_or, append_assoc}
-use Rattle.std.proofs.lemmas.List.{drop-drop, drop_all, take-append-drop}
+use Rattle.std.proofs.lemmas.List.{drop-drop, take-append-drop}
 use Rattle.std.specs.Str.{all_scalars}
 use lib.Utf8.{scalar}
 use Rattle.braid_change.proofs.Lengths.{scalars_append}
@@ -142,10 +142,6 @@ next_cut text done one two body whole ps at k p l e low order inv first text_is 
   where
     left : drop (p.end - at) (drop at text) ≡ drop p.end text
     left = let n : at + (p.end - at) ≡ p.end = omega arith in drop-drop (p.end - at) at text ∙ ap (λ (m : ℕ). drop m text) n
-
--- the end of the walk
-pub last_cut : (text done all whole : List ℕ) (ps : List Patch) (at k : ℕ) → length ps ≤ k → done ++ cut at (drop at text) (drop k ps) ≡ whole → all ≡ done ++ drop at text → all ≡ whole
-last_cut text done all whole ps at k l inv end = end ∙ ap (λ z. done ++ cut at (drop at text) z) (sym (drop_all k ps l)) ∙ inv
 
 scalars_parts : (xs ys : List ℕ) → all_scalars (xs ++ ys) ≡ true → (all_scalars xs ≡ true) × (all_scalars ys ≡ true)
 scalars_parts [] ys h = (refl, h)

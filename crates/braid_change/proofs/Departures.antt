@@ -4,7 +4,7 @@ use Rattle.std.proofs.lemmas.List.{take-append-drop, length-append}
 use Rattle.std.proofs.lemmas.List.Folds.{length-prefix_len}
 use Rattle.std.proofs.lemmas.Bool.{and_parts, cases_lt}
 use Rattle.std.proofs.lemmas.List.Sums.{prefix_len-le-length}
-use Rattle.std.proofs.lemmas.Result.{OkIff-at_ok, OkIff-at_err}
+use Rattle.std.proofs.lemmas.Result.{OkIff-at_err}
 use Rattle.std.proofs.lemmas.Bool.Decides.{nat_tests}
 use Rattle.std.proofs.lemmas.Str.{IsUtf8-from_ascii}
 use Rattle.std.proofs.lemmas.Str.Parse.{IsNumeralModel, numerals_by_value, tells_all_ascii_digits, parse_digits}
@@ -12,7 +12,7 @@ use Rattle.std.specs.List.{prefix_len, list_all, take_while}
 use Rattle.std.specs.Char.{is_ascii_digit}
 use Rattle.std.specs.Str.{all_ascii_digits, IsAscii}
 use Rattle.std.specs.Str.Parse.{digits_value, ParsesUnsigned}
-use Rattle.braid_change.specs.RangeForms.{is_space, is_other, starts, IsNumber, IsTooLarge, AfterGap, AfterBracket, AfterStart, AfterColon, AfterEnd, AfterClose, IsDeparture, no_bracket, no_start, no_colon, no_end, no_close, IsRangeFault, IsByteFault, IsNumberFault}
+use Rattle.braid_change.specs.RangeForms.{is_space, is_other, starts, IsNumber, IsTooLarge, AfterGap, AfterBracket, AfterStart, AfterColon, AfterEnd, AfterClose, IsDeparture, no_bracket, no_colon, no_end, no_close, IsRangeFault, IsByteFault, IsNumberFault}
 use Rattle.braid_change.specs.declared.range.RangeFault.{RangeFault}
 use Rattle.braid_change.specs.declared.range.RangeFault.TheVariants.{Unit, Form, Number}
 
@@ -132,11 +132,6 @@ close_fault value rest start end Unit g s h = absurd h
 close_fault value rest start end (Form at) g s h = (rest, no_close start end g s h.0, h.1)
 close_fault value rest start end Number g s h = absurd h
 
-pub start_fault : (value rest : List ℕ) (f : RangeFault) → AfterBracket value rest → IsNumberFault (length value) rest f → IsRangeFault value f
-start_fault value rest Unit g h = absurd h
-start_fault value rest (Form at) g h = (rest, no_start g h.0, h.1)
-start_fault value rest Number g h = inl (rest, g, h)
-
 pub end_fault : (value rest : List ℕ) (start : ℕ) (f : RangeFault) → AfterColon value start rest → IsNumberFault (length value) rest f → IsRangeFault value f
 end_fault value rest start Unit g h = absurd h
 end_fault value rest start (Form at) g h = (rest, no_end start g h.0, h.1)
@@ -173,11 +168,6 @@ pub unparsed : {E : Type 0} (ds text : List ℕ) (r : Result ℕ E) (e : E) → 
 unparsed ds text r e same h some p err =
     let q = OkIff-at_err r ((0 < length ds) × (digits_value 10 ds < 2 ^ 32)) (digits_value 10 ds) e (parse_digits own 32 ds r (subst (λ t. ParsesUnsigned 32 10 t r) same p) h) err in
     record { decimal = h; large = elim (cases_lt (digits_value 10 ds) (2 ^ 32)) [ inl lt ↦ absurd (q (some, lt)) | inr ge ↦ inr ge ] }
-
-pub parsed : {E : Type 0} (ds text : List ℕ) (r : Result ℕ E) (n : ℕ) → text ≡ ds → all_ascii_digits ds ≡ true → 0 < length ds → length ds ≤ 10 → ParsesUnsigned 32 10 text r → r ≡ Ok n → IsNumber ds n
-parsed ds text r n same h some short p ok =
-    let q = OkIff-at_ok r ((0 < length ds) × (digits_value 10 ds < 2 ^ 32)) (digits_value 10 ds) n (parse_digits own 32 ds r (subst (λ t. ParsesUnsigned 32 10 t r) same p) h) ok in
-    record { some = some; short = short; decimal = h; value = q.1; small = subst (λ k. k < 2 ^ 32) (sym q.1) q.0.1 }
 
 -- what a number leaves
 abbrev pub NumberRead : List ℕ → ℕ → List ℕ → Type 0

@@ -87,15 +87,6 @@ pub walk_begins : (len : ℕ) (p : Patch) (ps : List Patch) → Some p ≡ slice
 walk_begins len p [] e h = absurd (cc)
 walk_begins len p (q ∷ qs) e h = let same : p ≡ q = cc in ap (λ (z : Patch). walk len 0 z.start (q ∷ qs)) same ∙ walk_first len q qs h
 
--- one step of the walk
-pub walk_on : (len n s n' s' k : ℕ) (ps : List Patch) (p : Patch) (o : Option ℕ) → k < length ps → p ≡ get_or ps k p → walk len n s (drop k ps) ≡ o → number n s p ≡ n' → p.start ≡ s' → p.end ≤ len → walk len n' s' (drop (k + 1) ps) ≡ o
-walk_on len n s n' s' k ps p o l e inv num start fits =
-    ap (λ (m : ℕ). walk len m s' (drop (k + 1) ps)) (sym num) ∙ ap (λ (m : ℕ). walk len (number n s p) m (drop (k + 1) ps)) (sym start)
-    ∙ sym (ap (λ b. cond b (Some (number n s p)) (walk len (number n s p) p.start (drop (k + 1) ps))) (before len p.end fits)) ∙ sym (ap (walk len n s) (drop_next ps k p l e)) ∙ inv
-  where
-    before : (a b : ℕ) → b ≤ a → nat_lt a b ≡ false
-    before a b h = grind (arith, nat_tests)
-
 -- the walk ends at a patch past the end
 pub walk_ends : (len n s n' k : ℕ) (ps : List Patch) (p : Patch) (o : Option ℕ) → k < length ps → p ≡ get_or ps k p → walk len n s (drop k ps) ≡ o → number n s p ≡ n' → len < p.end → Some n' ≡ o
 walk_ends len n s n' k ps p o l e inv num past =
@@ -106,9 +97,3 @@ walk_ends len n s n' k ps p o l e inv num past =
 
 pub number_same : (n s : ℕ) (p : Patch) → p.start ≡ s → number n s p ≡ n
 number_same n s p e = ap (λ b. cond b n (n + 1)) (tells_same p.start s e)
-
-pub number_next : (n s : ℕ) (p : Patch) → (p.start ≡ s → ⊥) → number n s p ≡ n + 1
-number_next n s p ne = ap (λ b. cond b n (n + 1)) (differ p.start s ne)
-  where
-    differ : (a b : ℕ) → (a ≡ b → ⊥) → a == b ≡ false
-    differ a b ne = grind (arith, nat_tests)

@@ -42,7 +42,3 @@ accepted_more us u = (λ a. (front_of a, a us [] u refl), both)
       | inl l ↦ subst (λ (t : List UpdateView). IsAccepted (replica_answer (history_of t) w)) l.before (subst (λ (t : UpdateView). IsAccepted (replica_answer (history_of us) t)) l.same p.1)
       | inr b ↦ p.0 front b.back w b.whole
     ]
-
--- the front of accepted updates
-pub accepted_front : (us vs : List UpdateView) → AreAccepted (us ++ vs) → AreAccepted us
-accepted_front us vs a front back w e = a front (back ++ vs) w (ap (λ (t : List UpdateView). t ++ vs) e ∙ append_assoc front (w ∷ back) vs)

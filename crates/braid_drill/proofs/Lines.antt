@@ -3,7 +3,7 @@ use Rattle.std.proofs.Common.{◌≡◌, ℕ, List, [], ◌∷◌, ◌++◌, Opt
 use Rattle.braid_io.specs.Outside.{with_last}
 use Rattle.braid_drill.specs.declared.line.Line.{Line}
 use Rattle.braid_drill.specs.declared.line.Line.TheVariants.{Free, Busy}
-use Rattle.braid_drill.specs.Told.{servers_on, IsFree}
+use Rattle.braid_drill.specs.Told.{servers_on}
 
 -- where one link was up behind others, there were no others
 pub no_others : (line : Line) (before : Option (List (List ℕ))) (server : List ℕ) → Some (servers_on line) ≡ with_last before server → Some [] ≡ before
@@ -13,9 +13,3 @@ no_others (Free s) (Some (x ∷ xs)) server e = let z : Some [] ≡ Some (x ∷ 
 no_others (Busy a) (Some []) server e = refl
 no_others (Busy a) (Some (x ∷ [])) server e = let z : Some (a ∷ []) ≡ Some (x ∷ server ∷ []) = e in cc
 no_others (Busy a) (Some (x ∷ y ∷ ys)) server e = let z : Some (a ∷ []) ≡ Some (x ∷ y ∷ (ys ++ server ∷ [])) = e in cc
-
--- a dialer that tells the same servers has no link up where it had none
-pub stays_free : (old new : Line) → IsFree old → Some (servers_on new) ≡ Some (servers_on old) → IsFree new
-stays_free (Free s) (Free t) h e = refl
-stays_free (Free s) (Busy a) h e = let z : Some (a ∷ []) ≡ Some [] = e in cc
-stays_free (Busy a) new h e = let z : a ∷ [] ≡ [] = h in cc

@@ -89,9 +89,6 @@ pub version_field : (id : List ℕ) → IsIdentifier id → field_of (version_li
 version_field id h =
     spaced_line (codes "Version") (spelled_id id) (record { some = omega arith; bytes = (refl, (refl, (refl, (refl, (refl, (refl, (refl, tt))))))) }) (id_value id h) refl (ends_last is_blank (34 ∷ flat_map escaped id) 34)
 
-abbrev parents_name : List ℕ
-parents_name = codes "Parents"
-
 parents_is_name : IsName (codes "Parents")
 parents_is_name = record { some = omega arith; bytes = (refl, (refl, (refl, (refl, (refl, (refl, (refl, tt))))))) }
 

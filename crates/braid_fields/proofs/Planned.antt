@@ -178,11 +178,6 @@ set_read strings F e = go (has_bad_id strings) e
     go true f = absurd cc
     go false f = (refl, (let same : rising_ids strings ≡ F = cc in sym same))
 
--- a reason against strings is one against their set, and one against parents
-pub set_fault : (strings : List (List ℕ)) (fault : PlanFault) → Refuses fault (first_row (id_rows strings) strings) → Plans {A = List (List ℕ)} (Err fault) (first_row (id_rows strings) (rising_ids strings))
-set_fault strings faults.Memory h = tt
-set_fault strings (faults.Reason r) h = rows_fault (id_rows strings) (rising_ids strings) strings r h
-
 pub parents_fault : (strings : List (List ℕ)) (fault : PlanFault) → Plans {A = List (List ℕ)} (Err fault) (first_row (id_rows strings) (rising_ids strings)) → Plans {A = List (List ℕ)} (Err fault) (first_row (parent_rows strings) (rising_ids strings))
 parents_fault strings faults.Memory h = tt
 parents_fault strings (faults.Reason r) h = rows_stop (id_rows strings) ((nat_lt 32 (length (rising_ids strings)), reasons.TooManyParents) ∷ []) (rising_ids strings) (rising_ids strings) r h

@@ -1,7 +1,7 @@
 -- What the calls of a buffer make of the bytes that are put.
 use Rattle.std.proofs.Common.{◌≡◌, ◌-◌, Bool, true, false, List, ℕ, [], ◌++◌, ap, sym, subst, ◌∙◌, append_assoc, append-nil, length, take, drop, arith}
 use Rattle.std.proofs.lemmas.Grind.{common_steps}
-use Rattle.braid_io.specs.Outside.{Outflow, WritesAll, WritesPart}
+use Rattle.braid_io.specs.Outside.{Outflow, WritesPart}
 use Rattle.braid_frame.specs.Buffers.{BufferView, PutsBy, Puts}
 use Rattle.braid_frame.specs.BufferLaws.{writes_none, part_of_more, puts_more}
 
@@ -14,30 +14,10 @@ puts_cut a b x y f p = go x.failed y.failed f p
     go false true e q = subst (λ (t : List ℕ). WritesPart t x.outflow y.outflow) (append_assoc x.held a b) (part_of_more (x.held ++ a) b x.outflow y.outflow q)
     go false false e q = absurd (let is : false ≡ true = e in cc)
 
--- what waits was written, or a write of it failed
-pub flushed : (held kept : List ℕ) (f : Bool) (x y : Outflow) → f ≡ false → WritesAll held x y → kept ≡ [] → Puts [] (record { held = held; failed = f; outflow = x }) (record { held = kept; failed = f; outflow = y })
-flushed held kept true x y e w n = absurd (let is : true ≡ false = e in cc)
-flushed held kept false x y e w n = record { went = held; whole = ap (λ (t : List ℕ). held ++ t) (sym n); written = w }
-
-pub broke : (held kept : List ℕ) (f : Bool) (x y : Outflow) → f ≡ false → WritesPart held x y → Puts [] (record { held = held; failed = f; outflow = x }) (record { held = kept; failed = true; outflow = y })
-broke held kept true x y e w = absurd (let is : true ≡ false = e in cc)
-broke held kept false x y e w = part_of_more held [] x y w
-
 -- a piece joins what waits
 pub joined : (held kept piece : List ℕ) (f : Bool) (x : Outflow) → f ≡ false → kept ≡ held ++ piece → Puts piece (record { held = held; failed = f; outflow = x }) (record { held = kept; failed = f; outflow = x })
 joined held kept piece true x e n = absurd (let is : true ≡ false = e in cc)
 joined held kept piece false x e n = record { went = []; whole = sym n; written = writes_none x }
-
--- from an empty buffer, where no write had failed: where none has, and nothing waits, all was written
-pub ended_whole : (bytes : List ℕ) (x y z : BufferView) → x.held ≡ [] → x.failed ≡ false → Puts bytes x y → Puts [] y z → z.failed ≡ false → z.held ≡ [] → WritesAll bytes x.outflow z.outflow
-ended_whole bytes x y z n s p q f k = go x.failed z.failed s f (puts_more bytes [] x y z p q)
-  where
-    go : (a b : Bool) → a ≡ false → b ≡ false → PutsBy a b (bytes ++ []) x z → WritesAll bytes x.outflow z.outflow
-    go true b e g h = absurd (let is : true ≡ false = e in cc)
-    go false true e g h = absurd (let is : true ≡ false = g in cc)
-    go false false e g h =
-        let whole : h.went ≡ bytes = sym (append-nil h.went) ∙ ap (λ (t : List ℕ). h.went ++ t) (sym k) ∙ sym h.whole ∙ ap (λ (t : List ℕ). t ++ (bytes ++ [])) n ∙ append-nil bytes in
-        subst (λ (t : List ℕ). WritesAll t x.outflow z.outflow) whole h.written
 
 -- where a write has failed, a part was written
 pub ended_part : (bytes : List ℕ) (x y z : BufferView) → x.held ≡ [] → x.failed ≡ false → Puts bytes x y → Puts [] y z → z.failed ≡ true → WritesPart bytes x.outflow z.outflow
@@ -68,6 +48,3 @@ front_more piece rest n x y z w p q r =
       whole = grind (arith, common_steps, p.whole);
       puts = subst (λ (t : List ℕ). Puts (t ++ take n rest) x w) (append-nil p.front) (puts_more (p.front ++ []) (take n rest) x z w (puts_more p.front [] x y z p.puts q) r);
     }
-
-pub all_put : (piece rest : List ℕ) (x y : BufferView) → PutsFront piece rest x y → rest ≡ [] → Puts piece x y
-all_put piece rest x y p n = subst (λ (t : List ℕ). Puts t x y) (sym (p.whole ∙ ap (λ (t : List ℕ). p.front ++ t) n ∙ append-nil p.front)) p.puts

@@ -1,5 +1,5 @@
 -- What a feed leaves, after some steps.
-use Rattle.std.proofs.Common.{◌≡◌, ℕ, zero, suc, ◌+◌, ◌<◌, ◌≤◌, ◌^◌, true, false, List, [], ◌∷◌, ◌++◌, length, take, drop, refl, sym, ap, subst, ◌∙◌, append_assoc, arith, length-append, Some, None, Err, Option}
+use Rattle.std.proofs.Common.{◌≡◌, ℕ, zero, suc, ◌+◌, ◌<◌, ◌≤◌, ◌^◌, true, false, List, [], ◌∷◌, ◌++◌, length, take, drop, refl, sym, ap, subst, ◌∙◌, append_assoc, arith, Some, None, Err, Option}
 use Rattle.std.proofs.lemmas.List.{append-nil, take-append-drop, length-drop}
 use Rattle.std.specs.Option.{is_some}
 use Rattle.braid_change.specs.Updates.{UpdateView}
@@ -13,7 +13,7 @@ use Rattle.braid_frame.specs.Phases.{StandsAs, HasFault, IsFraming}
 use Rattle.braid_frame.specs.Framing.{StandsFor, IsOpen, updates_of, IfEnds, Takes, Fails, Feeds}
 use Rattle.braid_frame.specs.Steps.{StepsOn, Steps}
 use Rattle.braid_frame.proofs.Stood.{fault_more}
-use Rattle.braid_frame.proofs.Meant.{as_stands, faultless, failed_fault}
+use Rattle.braid_frame.proofs.Meant.{faultless, failed_fault}
 
 pub take_sum : (n m : ℕ) (xs : List ℕ) → take (n + m) xs ≡ take n xs ++ take m (drop n xs)
 take_sum zero m xs = let e : 0 + m ≡ m = omega arith in rw e refl
@@ -28,12 +28,6 @@ rest_taken b piece rest taken e = append_assoc b (take taken piece) rest ∙ ap 
 -- and some of it
 more_taken : (b piece rest : List ℕ) (taken n : ℕ) → rest ≡ drop taken piece → (b ++ take taken piece) ++ take n rest ≡ b ++ take (taken + n) piece
 more_taken b piece rest taken n e = append_assoc b (take taken piece) (take n rest) ∙ ap (λ t. b ++ (take taken piece ++ take n t)) e ∙ ap (λ t. b ++ t) (sym (take_sum taken n piece))
-
--- the bytes fed and the rest of a piece are the bytes and the piece
-pub feed_room : (us : List UpdateView) (s : State) (b piece rest : List ℕ) (taken : ℕ) → IsOpen s → StandsFor us s (b ++ take taken piece) → taken ≤ length piece → rest ≡ drop taken piece → length b + length piece < 2 ^ 64 → s.at + length s.kept.items + length rest < 2 ^ 64
-feed_room us s b piece rest taken o h w e room =
-    let k = as_stands s.phase us s.at s.kept.items (b ++ take taken piece) o h.stands in
-    omega (arith, k.place, ap length (rest_taken b piece rest taken e), length-append (b ++ take taken piece) rest, length-append b piece)
 
 some_update : (o : Option UpdateView) → is_some o ≡ true → o ≡ None → ⊥
 some_update None e n = cc

@@ -6,11 +6,10 @@ use Rattle.braid_frame.specs.declared.fed.Fed.{Fed}
 use Rattle.braid_frame.specs.declared.fed.FrameFault.{FrameFault}
 use Rattle.braid_frame.specs.declared.fed.FeedFault.{FeedFault}
 use Rattle.braid_frame.specs.declared.fed.FeedFault.TheVariants.{Frame, Memory}
-use Rattle.braid_frame.specs.declared.state.Awaits.{Awaits}
 use Rattle.braid_frame.specs.declared.state.Phase.{Phase}
 use Rattle.braid_frame.specs.declared.state.Phase.TheVariants.{Lines, Body, PatchLines, PatchContent, Faulted, NoMemory}
 use Rattle.braid_frame.specs.declared.state.State.{State}
-use Rattle.braid_frame.specs.Phases.{LeadsTo, StandsAs, HasFault, IsInHand, IsReading}
+use Rattle.braid_frame.specs.Phases.{LeadsTo, StandsAs, HasFault, IsReading}
 use Rattle.braid_frame.specs.Framing.{updates_of, IfEnds}
 use Rattle.braid_frame.specs.Steps.{Finishes, Steps, IsInLines, IsInContent}
 use Rattle.braid_frame.proofs.Meant.{stands_as}
@@ -19,9 +18,6 @@ use Rattle.braid_frame.proofs.Stood.{fault_more}
 -- the same, where state and bytes are written otherwise
 pub stands_at : (us : List UpdateView) (d e : Phase) (at to : ℕ) (kept new b : List ℕ) → e ≡ d → to ≡ at → new ≡ kept → IsReading d → LeadsTo us d at kept b → StandsAs e us to new b
 stands_at us d e at to kept new b x y z o s = rw (x, y, z) (stands_as d us at kept b o s)
-
-pub in_hand_at : (d e : Phase) (kept new : List ℕ) (line to : ℕ) (awaits next : Awaits) → e ≡ d → new ≡ kept → to ≡ line → next ≡ awaits → IsInHand d kept line awaits → IsInHand e new to next
-in_hand_at d e kept new line to awaits next x y z w h = rw (x, y, z, w) h
 
 pub goes_on_at : (d e : Phase) → e ≡ d → IsReading d → IsReading e
 goes_on_at d e x o = rw x o

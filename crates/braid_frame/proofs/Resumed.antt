@@ -36,11 +36,6 @@ use Rattle.braid_frame.specs.Steps.{IsInLines, IsInContent}
 use Rattle.braid_frame.proofs.LinesKept.{as_begins}
 use Rattle.braid_frame.proofs.LinesJudged.{still_open}
 
-then_assoc : {A B C : Type 0} (o : Outcome A) (f : A → ℕ → List ℕ → Outcome B) (g : B → ℕ → List ℕ → Outcome C) → then_read (then_read o f) g ≡ then_read o (λ x at rest. then_read (f x at rest) g)
-then_assoc Part f g = refl
-then_assoc (Bad at r) f g = refl
-then_assoc (Whole x at rest) f g = refl
-
 -- lines
 
 -- an empty line before a head is passed over

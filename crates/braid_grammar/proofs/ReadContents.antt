@@ -1,7 +1,6 @@
 -- Reading contents and patches of whole slices.
 use Rattle.std.proofs.Common.{◌≡◌, ℕ, suc, ◌+◌, ◌-◌, ◌≤◌, ◌<◌, true, false, List, [], ◌∷◌, ◌++◌, length, take, drop, refl, sym, ap, subst, ◌∙◌, append_assoc, ltb, arith, length-append, inl, inr, min, ◌^◌}
 use Rattle.std.proofs.lemmas.Bool.{cases_Bool, le-ltb}
-use Rattle.std.proofs.lemmas.List.{append-nil}
 use Rattle.std.specs.Str.{chars, is_utf8}
 use Rattle.braid_change.specs.declared.patch.Patch.{Patch}
 use Rattle.braid_change.specs.Texts.{IsTextOf}
@@ -61,13 +60,6 @@ read_same Part = refl
 read_same (Bad at r) = refl
 read_same (Whole ps at rest) = refl
 
-pub patches_begin : (count at : ℕ) (bytes : List ℕ) → ArePatchesRead count at bytes 0 [] 0 0 at bytes
-patches_begin count at bytes = record {
-  said = read_same (patches_at count 0 0 at bytes) ∙ ap (λ n. then_read (patches_at n 0 0 at bytes) (λ ps last end. Whole ([] ++ ps) last end)) (let e : count ≡ count - 0 = omega arith in e);
-  fits = omega arith;
-  room = refl;
-}
-
 read_twice : (p : Patch) (patches : List Patch) (o : Outcome (List Patch)) → then_read (then_read o (λ ps last end. Whole (p ∷ ps) last end)) (λ ps last end. Whole (patches ++ ps) last end) ≡ then_read o (λ ps last end. Whole ((patches ++ p ∷ []) ++ ps) last end)
 read_twice p patches Part = refl
 read_twice p patches (Bad at r) = refl
@@ -100,11 +92,6 @@ patches_part count at bytes n patches used before to rest start r l g e = let s 
 pub patches_bad : (count at : ℕ) (bytes : List ℕ) (n : ℕ) (patches : List Patch) (used before to : ℕ) (rest start : List ℕ) (place : ℕ) (r : Reason) → ArePatchesRead count at bytes n patches used before to rest → n < count → IsBehindGap rest start
     → patch_at used before (to + (length rest - length start)) start ≡ Bad place r → patches_at count 0 0 at bytes ≡ Bad place r
 patches_bad count at bytes n patches used before to rest start place why r l g e = let s = next_says count at bytes n patches used before to rest start r l g in s ∙ rw e refl
-
-pub patches_end : (count at : ℕ) (bytes : List ℕ) (n : ℕ) (patches : List Patch) (used before to : ℕ) (rest : List ℕ) → ArePatchesRead count at bytes n patches used before to rest → count ≤ n → patches_at count 0 0 at bytes ≡ Whole patches to rest
-patches_end count at bytes n patches used before to rest r l =
-    let z : count - n ≡ 0 = omega arith in
-    r.said ∙ ap (λ m. then_read (patches_at m used before to rest) (λ ps last end. Whole (patches ++ ps) last end)) z ∙ ap (λ (ps : List Patch). Whole ps to rest) (append-nil patches)
 
 -- the length of a patch's content, where it is counted up to the greatest number
 pub counted_len : (n : ℕ) (p : Patch) → n ≡ min (patch_len p) (2 ^ 64 - 1) → patch_len p ≤ 1_048_576 → n ≡ patch_len p

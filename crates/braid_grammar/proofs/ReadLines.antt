@@ -103,11 +103,6 @@ one_passed before bytes fields new count rest line next f p k e some holds add =
   room = omega (arith, p.room, ap length e, length-append line next);
 }
 
-pub passed_last : (before : ℕ) (bytes : List ℕ) (fields : HeadFields) (count : ℕ) (rest line next : List ℕ) → ArePassed before bytes fields count rest → IsLine line → rest ≡ line ++ next → is_empty_line line ≡ true
-    → (fs : List Field) × (fields ≡ known fs) × (behind before [] (fields_of (lines_of bytes)) ≡ Closed fs (count + length line))
-passed_last before bytes fields count rest line next p k e i =
-    (p.passed, p.known, p.said ∙ ap (λ ls. behind count p.passed (fields_of ls)) (lines_begin rest line next k e) ∙ rw i (ap (λ fs. Closed fs (count + length line)) (append-nil p.passed)))
-
 pub passed_wrong : (before : ℕ) (bytes : List ℕ) (fields : HeadFields) (count : ℕ) (rest line next : List ℕ) → ArePassed before bytes fields count rest → IsLine line → rest ≡ line ++ next → is_empty_line line ≡ false → field_of line ≡ None
     → behind before [] (fields_of (lines_of bytes)) ≡ Wrong count BadLine
 passed_wrong before bytes fields count rest line next p k e some holds =

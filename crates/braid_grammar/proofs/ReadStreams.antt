@@ -58,9 +58,6 @@ one_read us at bytes rest u last left r e =
 pub read_same : (us vs : List UpdateView) (at : ℕ) (bytes rest : List ℕ) → vs ≡ us → AreRead us at bytes rest → AreRead vs at bytes rest
 read_same us vs at bytes rest e r = subst (λ x. AreRead x at bytes rest) (sym e) r
 
-pub read_room : (us : List UpdateView) (at : ℕ) (bytes rest : List ℕ) → AreRead us at bytes rest → at + length rest ≡ length bytes
-read_room us at bytes rest r = omega (arith, r.place, ap length r.spelled, length-append r.front rest)
-
 pub read_shorter : (at : ℕ) (rest : List ℕ) (u : UpdateView) (last : ℕ) (left : List ℕ) → next_at at rest ≡ Whole u last left → length left < length rest
 read_shorter at rest u last left e = shorter at rest u last left (next_back at rest u last left e)
 

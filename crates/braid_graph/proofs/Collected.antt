@@ -2,7 +2,7 @@
 use Rattle.std.proofs.Common.{◌≡◌, ◌↔◌, ℕ, ◌+◌, ◌<◌, ◌≤◌, List, [], ◌∷◌, ◌++◌, Bool, true, false, cond, length, map, take, drop, reverse, slice_get, Option, Some, None, Result, Ok, Err, IfOk, zero, suc, arith, refl, sym, ap, subst, ◌∙◌, inl, inr, ◌⊎◌, length-append}
 use Rattle.std.specs.List.{Contains, filter, count_by}
 use Rattle.std.proofs.lemmas.Option.{none-some, same_Some, slice_get_within, get_or_from_slice_get}
-use Rattle.std.proofs.lemmas.List.{drop_more, drop_all, reverse-append, length-reverse, take-append-drop, nil_from_length, length-map}
+use Rattle.std.proofs.lemmas.List.{drop_more, reverse-append, length-reverse, take-append-drop, nil_from_length, length-map}
 use Rattle.std.proofs.lemmas.List.Elements.{filter-append}
 use Rattle.std.proofs.lemmas.List.Sums.{length-filter, count_by-le-length}
 use Rattle.std.proofs.lemmas.List.Sorted.{IsPermutation-reverse, IsPermutation-sym, Contains-permutation}
@@ -75,14 +75,6 @@ other_next ps links flags n ids kept l is so_far = go (slice_get (ids_of (entrie
     go : (r : Option (List ℕ)) → slice_get (ids_of (entries_in ps)) n ≡ r → ids ≡ reverse (filter (is_head (entries_in ps)) (drop n (ids_of (entries_in ps))))
     go None a = absurd (no_gap (ids_of (entries_in ps)) n (omega (arith, ids_length (entries_in ps), entries_length ps)) a)
     go (Some x) a = so_far ∙ collected_no (is_head (entries_in ps)) (ids_of (entries_in ps)) n x a (flag_in (entries_in ps) links flags n x false kept a is)
-
-pub flags_length : (ps : List (List ℕ × List (List ℕ))) (links : List Links) (flags : List Bool) → IsKept (entries_in ps) links flags → length flags ≡ length ps
-flags_length ps links flags kept =
-    ap length kept.heads ∙ length-map (ids_of (entries_in ps)) (is_head (entries_in ps)) ∙ ids_length (entries_in ps) ∙ entries_length ps
-
-pub heads_none : (ps : List (List ℕ × List (List ℕ))) (n : ℕ) → length ps ≤ n → [] ≡ reverse (filter (is_head (entries_in ps)) (drop n (ids_of (entries_in ps))))
-heads_none ps n l =
-    sym (ap (λ (t : List (List ℕ)). reverse (filter (is_head (entries_in ps)) t)) (drop_all n (ids_of (entries_in ps)) (omega (arith, ids_length (entries_in ps), entries_length ps))))
 
 pub heads_all : (es : List GraphEntry) (links : List Links) (flags : List Bool) (ids : List (List ℕ)) (n width : ℕ) → IsKept es links flags → width ≡ count_by (λ (b : Bool). b) flags → ids ≡ reverse (filter (is_head es) (drop n (ids_of es))) → (length ids ≡ width) ⊎ (n ≡ 0)
     → ids ≡ reverse (heads_of es)

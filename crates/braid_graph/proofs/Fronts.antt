@@ -1,11 +1,10 @@
 -- The walk over runs: what the fronts of runs have, step by step.
-use Rattle.std.proofs.Common.{◌≡◌, ◌↔◌, ℕ, ◌+◌, ◌-◌, ◌<◌, ◌≤◌, List, [], ◌∷◌, ◌++◌, Bool, false, length, max, take, replicate, slice_get, Some, None, zero, suc, arith, refl, sym, ap, subst, ◌∙◌, inl, inr, ◌⊎◌}
+use Rattle.std.proofs.Common.{◌≡◌, ◌↔◌, ℕ, ◌+◌, ◌-◌, ◌<◌, ◌≤◌, List, [], ◌∷◌, ◌++◌, Bool, length, max, take, slice_get, Some, None, zero, suc, arith, refl, sym, ap, subst, ◌∙◌, inl, inr, ◌⊎◌}
 use Rattle.std.proofs.Math.ListN.{set}
 use Rattle.std.specs.Prelude.{Result, Ok, Err, IfOk}
 use Rattle.std.specs.List.{Contains}
 use Rattle.std.proofs.lemmas.Bool.{cases_eq, cases_lt}
-use Rattle.std.proofs.lemmas.Option.{none-some, same_Some, slice_get_within}
-use Rattle.std.proofs.lemmas.List.{take_all, length-replicate}
+use Rattle.std.proofs.lemmas.Option.{same_Some, slice_get_within}
 use Rattle.std.proofs.Common.{length-set}
 use Rattle.std.proofs.lemmas.List.Elements.{Contains-append_left, Contains-push, Contains-push_cases}
 use Rattle.braid_ids.specs.MarkSets.{IsMarked}
@@ -154,27 +153,6 @@ more_both es a b c P Q R all p q m = (
 pub more_none : (es : List GraphEntry) (a : List ℕ) (P : ℕ → Type 0) → ((m : ℕ) → P m → ⊥) → ReachesMore es a a P
 more_none es a P none m = (λ x. inl x, λ s. elim s [ inl x ↦ x | inr (n, h, k) ↦ absurd (none n h) ])
 
--- no front has a number before the walk
-zero_at : (k r e : ℕ) → slice_get (replicate k 0) r ≡ Some e → e ≡ 0
-zero_at zero r e at = absurd (none-some e at)
-zero_at (suc k) zero e at = sym (same_Some 0 e at)
-zero_at (suc k) (suc r) e at = zero_at k r e at
-
-pub reached_none : (es : List GraphEntry) (F : List (List ℕ)) (ends : List ℕ) → ends ≡ replicate (runs_of es) 0 → IsReached es F (take 0 F) (runs_of es) ends
-reached_none es F ends blank = record {
-  fits = record {
-    size = ap length blank ∙ length-replicate (runs_of es) 0;
-    within = λ r e at. let z = is_zero r e at in omega arith;
-    apart = λ r e t at next. let z = is_zero r e at in omega arith;
-  };
-  members = λ n v at c. absurd (contains_member [] v c);
-  closed = λ k s m l at x is. let w = slice_get_within (starts_of es) k s at in absurd (omega arith);
-  within = λ n v at x. let z = is_zero x.run x.end x.ends_at in absurd (omega (arith, x.below));
-}
-  where
-    is_zero : (r e : ℕ) → slice_get ends r ≡ Some e → e ≡ 0
-    is_zero r e at = zero_at (runs_of es) r e (subst (λ (t : List ℕ). slice_get t r ≡ Some e) blank at)
-
 pub reached_next : (es : List GraphEntry) (F : List (List ℕ)) (i n : ℕ) (id : List ℕ) (old new : List ℕ) → IsHistoryGraph es → IsReached es F (take i F) (runs_of es) old → slice_get F i ≡ Some id → IsNumberOf es id n → AreEnds es new → ReachesMore es old new (λ m. m ≡ n)
     → IsReached es F (take (i + 1) F) (runs_of es) new
 reached_next es F i n id old new h so_far at is fits more = record {
@@ -193,9 +171,6 @@ reached_next es F i n id old new h so_far at is fits more = record {
         behind_ancestor es F (n - m) n m id v (omega (arith, behind.below)) behind is place (named id (member_contains F id (member_at F i id at)))
   ];
 }
-
-pub reached_all : (es : List GraphEntry) (F : List (List ℕ)) (i r : ℕ) (ends : List ℕ) → length F ≤ i → IsReached es F (take i F) r ends → IsReached es F F r ends
-reached_all es F i r ends l has = subst (λ (t : List (List ℕ)). IsReached es F t r ends) (take_all i F l) has
 
 -- the front that has a run's first number is that run's
 own_front : (es : List GraphEntry) (ends : List ℕ) (k s : ℕ) → AreEnds es ends → slice_get (starts_of es) k ≡ Some s → (x : Reaches (starts_of es) ends s) → x.run ≡ k
@@ -286,15 +261,6 @@ reached_is es F ends marks h held has size marked = record {
               record { run = x.run; start = x.start; end = x.end; starts_at = x.starts_at; ends_at = x.ends_at; from = omega (arith, x.from, g.2); below = omega (arith, x.below, g.2) }
         ]
 
--- the marks of the fronts, one run more
-pub fronts_none : (es : List GraphEntry) (ends : List ℕ) (k : ℕ) (marks : List Bool) → marks ≡ replicate k false → MarksFronts es ends 0 marks
-fronts_none es ends k marks blank n = (λ m. absurd (blank_at k n (subst (λ (t : List Bool). IsMarked t n) blank m)), λ x. absurd (omega (arith, x.1)))
-  where
-    blank_at : (k n : ℕ) → IsMarked (replicate k false) n → ⊥
-    blank_at zero n h = cc
-    blank_at (suc k) zero h = cc
-    blank_at (suc k) (suc n) h = blank_at k n h
-
 pub fronts_more : (es : List GraphEntry) (ends : List ℕ) (r s e : ℕ) (old new : List Bool) → slice_get (starts_of es) r ≡ Some s → slice_get ends r ≡ Some e → MarksFronts es ends r old → ((n : ℕ) → IsMarked new n ↔ (IsMarked old n ⊎ ((s ≤ n) × (n < e)))) → MarksFronts es ends (r + 1) new
 fronts_more es ends r s e old new begins at so_far more n = (
   λ m. elim ((more n).0 m) [
@@ -326,9 +292,6 @@ parents_next es ns i p first old new at so_far more =
         | inr e ↦ subst (Contains (take i ns ++ p ∷ [])) (sym e) (Contains-push (take i ns) p)
       ]),
     )) so_far more
-
-pub parents_none : (es : List GraphEntry) (ns ends : List ℕ) → ReachesMore es ends ends (Contains (take 0 ns))
-parents_none es ns ends = more_none es ends (Contains (take 0 ns)) (λ m c. contains_member [] m c)
 
 -- the same numbers
 pub more_same : (es : List GraphEntry) (a b : List ℕ) (P Q : ℕ → Type 0) → ((m : ℕ) → P m ↔ Q m) → ReachesMore es a b P → ReachesMore es a b Q

@@ -4,13 +4,13 @@ use Rattle.std.specs.Ordering.{is_eq}
 use Rattle.std.specs.List.{Contains}
 use Rattle.std.proofs.lemmas.List.{reverse-append, length-reverse}
 use Rattle.braid_ids.specs.Identifiers.{id_cmp}
-use Rattle.braid_graph.specs.Entries.{GraphEntry, ids_of, Holds, IsHistoryGraph, SameEntries}
+use Rattle.braid_graph.specs.Entries.{GraphEntry, ids_of, IsHistoryGraph, SameEntries}
 use Rattle.braid_graph.specs.Ancestries.{IsAncestor, named, parent}
 use Rattle.braid_graph.specs.Levels.{greatest_by, level_in, level_of}
 use Rattle.braid_ids.proofs.Members.{Member, contains_member, member_contains, member_reverse, member_from_reverse}
 use Rattle.braid_ids.proofs.Ids.{same_or_not, eq_itself}
 use Rattle.braid_graph.proofs.Ids.{member_or_not}
-use Rattle.braid_graph.proofs.Newest.{IsNewestFirst, entry_id, id_entry, newest_first, held_parents, ids_from_reverse}
+use Rattle.braid_graph.proofs.Newest.{IsNewestFirst, entry_id, id_entry, newest_first, held_parents}
 
 pub greatest_agree : (f g : List ℕ → ℕ) (F : List (List ℕ)) → ((v : List ℕ) → Member v F → f v ≡ g v) → greatest_by f F ≡ greatest_by g F
 greatest_agree f g [] h = refl
@@ -70,9 +70,6 @@ level_entry es h e c = level_in_entry (reverse es) (newest_first es h) e (member
 
 pub level_length : (es : List GraphEntry) (v : List ℕ) → level_of es v ≤ length es
 level_length es v = let h = level_in_length (reverse es) v in omega (arith, length-reverse es)
-
-pub level_unheld : (es : List GraphEntry) (v : List ℕ) → (Holds es v → ⊥) → level_of es v ≡ 0
-level_unheld es v h = level_in_unheld (reverse es) v (λ m. h (member_contains (ids_of es) v (ids_from_reverse es v m)))
 
 pub level_push : (es : List GraphEntry) (e : GraphEntry) (v : List ℕ) → (e.id ≡ v → ⊥) → level_of (es ++ e ∷ []) v ≡ level_of es v
 level_push es e v ne = ap (λ (R : List GraphEntry). level_in R v) (reverse-append es (e ∷ [])) ∙ level_other e (reverse es) v ne

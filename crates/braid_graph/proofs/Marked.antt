@@ -75,10 +75,6 @@ parent_numbers es links n k h z l at m = go (entry_within es n l)
 pub parent_number_within : (es : List GraphEntry) (n m : ℕ) → IsParentNumber es n m → m < length es
 parent_number_within es n m (e, v, at, c, is) = number_within es v m is
 
--- whether all are marked, one more
-pub all_marked_none : (es : List GraphEntry) (F : List (List ℕ)) (marks : List Bool) → AllMarked es (take 0 F) marks
-all_marked_none es F marks n v at c = absurd (contains_member [] v c)
-
 pub all_marked_next : (es : List GraphEntry) (F : List (List ℕ)) (i n : ℕ) (id : List ℕ) (marks : List Bool) → IsHistoryGraph es → AllMarked es (take i F) marks → slice_get F i ≡ Some id → IsNumberOf es id n → IsMarked marks n → AllMarked es (take (i + 1) F) marks
 all_marked_next es F i n id marks h all at is marked m v place c = elim (Contains-push_cases (take i F) id v (subst (λ (t : List (List ℕ)). Contains t v) (take_next F i id at) c)) [
   | inl before ↦ all m v place before

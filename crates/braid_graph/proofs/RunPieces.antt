@@ -40,11 +40,6 @@ fewer n before (e ∷ es) flag (f ∷ fs) l go = by (goes_on before e.parents) r
     by true g false b p q more = let s = ap length (starts_on n before e es g) in let none : pieces_after flag (f ∷ fs) ≡ pieces_after f fs = (λ i. pieces_after flag (p i ∷ fs)) ∙ (zero-add (pieces_after false fs) ∙ (λ i. pieces_after (sym p i) fs)) in omega arith
     by true g true false p q more = let marked : flag ≡ true = go 0 e refl p g in absurd (cc)
 
-flag_before_is : (before : Bool) (flags : List Bool) (n : ℕ) → flag_before before flags (suc n) ≡ true → n < length flags → IsMarked flags n
-flag_before_is before [] n h l = absurd (omega arith)
-flag_before_is before (f ∷ fs) zero h l = h
-flag_before_is before (f ∷ fs) (suc n) h l = flag_before_is f fs n h (omega arith)
-
 is_flag_before : (before : Bool) (flags : List Bool) (n : ℕ) → IsMarked flags n → n < length flags → flag_before before flags (suc n) ≡ true
 is_flag_before before [] n h l = absurd (omega arith)
 is_flag_before before (f ∷ fs) zero h l = h

@@ -6,10 +6,8 @@ use Rattle.std.proofs.lemmas.Cmp.{nat_list_cmp_total}
 use Rattle.std.proofs.lemmas.List.{take_all}
 use Rattle.std.proofs.lemmas.List.Elements.{Contains-append_left, Contains-append_right, Contains-append_cases}
 use Rattle.braid_ids.specs.Identifiers.{id_cmp}
-use Rattle.braid_ids.specs.declared.unknown.Unknown.{Unknown}
-use Rattle.braid_ids.specs.declared.unknown.Unknown.TheVariants.{Id, Memory}
 use Rattle.braid_graph.specs.Entries.{GraphEntry, ids_of, Holds, HoldsAll}
-use Rattle.braid_graph.specs.Ancestries.{IsLeastUnheld, IsUnknown, NamesUnknown}
+use Rattle.braid_graph.specs.Ancestries.{IsLeastUnheld}
 use Rattle.braid_graph.specs.Inside.{IsLeastOf, lesser_of}
 use Rattle.braid_ids.proofs.Members.{contains_member, member_contains, member_at}
 use Rattle.braid_ids.proofs.Ids.{id_same, id_itself}
@@ -68,10 +66,6 @@ module _ (es : List GraphEntry) (F G : List (List ℕ)) where
       go Equal e = subst (λ (o : Ordering). IsLeastUnheld es (F ++ G) (cond (is_lt o) u v)) (sym e) (behind (λ back. cc))
       go Greater e = subst (λ (o : Ordering). IsLeastUnheld es (F ++ G) (cond (is_lt o) u v)) (sym e) (behind (λ back. cc))
 
--- one more identifier
-pub least_none : (es : List GraphEntry) (F : List (List ℕ)) → IsLeastOf es (take 0 F) None
-least_none es F v c = absurd (contains_member [] v c)
-
 pub least_next_held : (es : List GraphEntry) (F : List (List ℕ)) (i : ℕ) (id : List ℕ) (r : Option (List ℕ)) → IsLeastOf es (take i F) r → slice_get F i ≡ Some id → Holds es id → IsLeastOf es (take (i + 1) F) r
 least_next_held es F i id r so_far at held =
     subst (λ (t : List (List ℕ)). IsLeastOf es t r) (sym (take_next F i id at)) (least_held es (take i F) (id ∷ []) r so_far (λ v c. elim (contains_member (id ∷ []) v c) [ inl same ↦ subst (Holds es) same held | inr m ↦ absurd m ]))
@@ -86,10 +80,6 @@ least_next es F i id r so_far at not_held =
 
 pub least_all : (es : List GraphEntry) (F : List (List ℕ)) (i : ℕ) (r : Option (List ℕ)) → length F ≤ i → IsLeastOf es (take i F) r → IsLeastOf es F r
 least_all es F i r l so_far = subst (λ (t : List (List ℕ)). IsLeastOf es t r) (take_all i F l) so_far
-
-pub unknown_named : (es : List GraphEntry) (F : List (List ℕ)) (u : Unknown) (v : List ℕ) → NamesUnknown u v → IsLeastUnheld es F v → IsUnknown es F u
-unknown_named es F (Id w) v same is = subst (IsLeastUnheld es F) (sym same) is
-unknown_named es F Memory v same is = tt
 
 pub not_held_from : (es : List GraphEntry) (v : List ℕ) (r : Option ℕ) (missing : Bool) → is_some r ≡ not missing → missing ≡ true → IfNone r (Holds es v → ⊥) → Holds es v → ⊥
 not_held_from es v None missing e t h = h

@@ -1,11 +1,11 @@
 -- The walk from the newest entry to the oldest finds exactly the ancestry.
 use Rattle.std.proofs.Common.{◌≡◌, ℕ, List, [], ◌∷◌, ◌++◌, Bool, true, false, cond, reverse, refl, sym, subst, inl, inr, ◌⊎◌}
 use Rattle.std.specs.List.{Contains}
-use Rattle.braid_graph.specs.Entries.{GraphEntry, ids_of, Holds, HoldsAll, IsHistoryGraph, has_id}
+use Rattle.braid_graph.specs.Entries.{GraphEntry, ids_of, HoldsAll, IsHistoryGraph, has_id}
 use Rattle.braid_graph.specs.Ancestries.{IsAncestor, named, parent, IsClosed, IsAncestry, ancestry_in, ancestry_of}
 use Rattle.braid_ids.proofs.Members.{Member, contains_member, member_contains, member_append_left, member_append_right, member_append_cases, member_reverse, member_from_reverse}
 use Rattle.braid_graph.proofs.Ids.{id_member, member_id}
-use Rattle.braid_graph.proofs.Newest.{IsNewestFirst, entry_id, newest_first, ids_reverse, parents_held}
+use Rattle.braid_graph.proofs.Newest.{IsNewestFirst, entry_id, newest_first, ids_reverse}
 
 -- the ancestry speaks of the entries alone, in whatever order they are
 pub same_ancestry : (es fs : List GraphEntry) → ((e : GraphEntry) → Contains es e → Contains fs e) → (F : List (List ℕ)) (v : List ℕ) → IsAncestor es F v → IsAncestor fs F v
@@ -88,7 +88,3 @@ walk_least es F h held = record {
   closed = walk_closed es F h held;
   least = λ ys c v m. least es F (Contains ys) c.names c.parents v (walk_sound es F v m);
 }
-
--- an ancestry among held identifiers is held
-pub ancestor_held : (es : List GraphEntry) (F : List (List ℕ)) → IsHistoryGraph es → HoldsAll es F → (v : List ℕ) → IsAncestor es F v → Holds es v
-ancestor_held es F h held v a = least es F (Holds es) held (λ e p c k d. parents_held es h e c p d) v a

@@ -10,7 +10,7 @@ use Rattle.braid_hall.specs.Histories.{IsPrefix, longer_of}
 use Rattle.braid_hall.specs.Passes.{PassView, BeginsWithBoth, joined_with, with_split, new_pass}
 use Rattle.braid_hall.specs.Many.{AreAway, JoinsAll, SplitsAll, KeepsPass}
 use Rattle.braid_hall.proofs.Places.{at_inside, at_snoc_place}
-use Rattle.braid_hall.proofs.Members.{among_none, among_more, among_last, among_split, without_keeps, without_has}
+use Rattle.braid_hall.proofs.Members.{among_more, among_last, among_split, without_keeps, without_has}
 use Rattle.braid_hall.proofs.Histories.{prefix_itself, prefix_of_prefix, all_cons}
 
 -- lists that are as long, and agree at each place
@@ -27,15 +27,6 @@ empty_of [] h = refl
 empty_of (x ∷ xs) h = absurd (h x (0, omega arith, refl))
 
 module _ {E : Type 0} (hall : TableId) where
-  -- a pass that has split off none has none away
-  pub away_none : (p : PassView E) → p.hall ≡ hall → p.number ≡ 0 → p.held ≡ false → p.away ≡ [] → AreAway hall p []
-  away_none p same first idle none = record {
-    same_hall = same;
-    first = first;
-    idle = idle;
-    each = λ k x e. absurd (some-ne-none x (sym e));
-    out = λ n a. absurd (among_none n (subst (λ l. Contains l n) none a));
-  }
 
   -- where no pass is left, none is away
   pub none_away_of : (p : PassView E) (ps : List (PassView E)) → length ps ≡ 0 → AreAway hall p ps → p.away ≡ []
@@ -103,15 +94,6 @@ module _ {E : Type 0} where
   joins_whole p all (x ∷ xs) popped q none whole g = absurd (omega arith)
 
 module _ {E : Type 0} (hall : TableId) where
-  -- a pass that split off none
-  pub splits_none : (p : PassView E) → p.hall ≡ hall → p.number ≡ 0 → p.held ≡ false → p.made ≡ 0 → p.away ≡ [] → SplitsAll hall p 0 p []
-  splits_none p same first idle made none = record {
-    away = away_none hall p same first idle none;
-    many = refl;
-    made = made;
-    fresh = λ k new e. absurd (some-ne-none new (sym e));
-    kept = refl;
-  }
 
   -- a pass that split off one more
   pub splits_more : (p : PassView E) (n : ℕ) (q : PassView E) (ps : List (PassView E)) → SplitsAll hall p n q ps → SplitsAll hall p (n + 1) (with_split q) (ps ++ new_pass q ∷ [])

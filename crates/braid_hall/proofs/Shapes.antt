@@ -1,5 +1,5 @@
 -- What a seat is after the steps of a turn, and what contracts see of it.
-use Rattle.std.proofs.Common.{◌≡◌, ℕ, ◌+◌, ◌-◌, ◌%◌, length, ◌^◌, ◌<◌, Bool, true, false, List, [], ◌∷◌, ◌++◌, sym, refl, ap, ◌∙◌, subst, ⊎_elim, append-nil, true≢false, lt-ltb, le-ltb}
+use Rattle.std.proofs.Common.{◌≡◌, ℕ, ◌+◌, ◌-◌, ◌%◌, length, ◌^◌, ◌<◌, true, false, List, [], ◌∷◌, ◌++◌, sym, refl, ap, ◌∙◌, subst, ⊎_elim, append-nil, true≢false, lt-ltb}
 use mathlib.Core.Option.{none}
 use Rattle.std.specs.Prelude.{Option, Some, None}
 use Rattle.atomic_table.specs.Table.{Me, step, rest, Allows}
@@ -9,7 +9,7 @@ use Rattle.braid_hall.specs.Histories.{IsPrefix, longer_of}
 use Rattle.braid_hall.specs.Turns.{IsKept}
 use Rattle.braid_hall.specs.Steps.{Finds, BeginsBoth, left, carried_history}
 use Rattle.braid_hall.specs.Views.{after_look, after_draw, after_find, after_leave, after_join}
-use Rattle.braid_hall.specs.Passes.{IsBetweenCalls, CanDraw, Enters, LooksLate, AddsOne, IsTurn, IsWorn, pass_of}
+use Rattle.braid_hall.specs.Passes.{IsBetweenCalls, CanDraw, Enters, AddsOne, IsTurn, pass_of}
 use Rattle.braid_hall.proofs.Keeps.{leaves}
 use Rattle.braid_hall.proofs.Histories.{longer_begins_with_both}
 
@@ -30,9 +30,6 @@ same_book a b e = ap (or_else a) e
 module _ {B E : Type 0} where
   pub can_draw : (me me1 : M B E) (n : ℕ) → IsBetweenCalls me → me.0.held ≡ false → n < 9223372036854775808 → me1 ≡ (after_look me.0 n, me.1) → CanDraw me1.0
   can_draw me me1 n r h lt e = subst (λ (m : M B E). CanDraw m.0) (sym e) (r.lives, lt-ltb n 9223372036854775808 lt, (r.idle h).1, h)
-
-  pub worn_rests : (me me1 : M B E) (n : ℕ) → IsBetweenCalls me → me1 ≡ (after_look me.0 n, me.1) → IsBetweenCalls me1
-  worn_rests me me1 n r e = subst (λ (m : M B E). IsBetweenCalls m) (sym e) record { lives = r.lives; idle = r.idle; busy = r.busy }
 
   pub drawn_seat : (me me1 me2 : M B E) (n p : ℕ) → IsBetweenCalls me → me.0.held ≡ false → me1 ≡ (after_look me.0 n, me.1) → me2 ≡ (after_draw me1.0 p, me1.1) → me2 ≡ (after_draw (after_look me.0 n) p, [])
   drawn_seat me me1 me2 n p r h e f = f ∙ (ap (λ (m : M B E). (after_draw m.0 p, m.1)) e ∙ ap (λ (c : List (ℕ × Option B)). (after_draw (after_look me.0 n) p, c)) (r.idle h).0)
@@ -102,13 +99,6 @@ module _ {B E : Type 0} where
     is_turn hall v w marks spare b e = let f = e.3 in
         subst (λ (z : View E). IsTurn entries by (pass_of hall v marks spare) (pass_of hall z (marks ++ length (entries b) ∷ []) (spare - 1)) b) (sym e.4)
         record { early = e.2; opened = f.opened; begins = f.begins; exact = f.exact; own = f.own; others = f.others; ticket = e.1; parts = refl }
-
--- no turn, as contracts see it
-pub is_worn : {E : Type 0} (hall : TableId) (v w : View E) (marks : List ℕ) (spare : ℕ) → LooksLate v w → IsWorn (pass_of hall v marks spare) (pass_of hall w marks spare)
-is_worn hall v w marks spare e =
-    let late : IsWorn (pass_of hall v marks spare) (pass_of hall (after_look v e.0) marks spare) =
-    record { late = e.1; parts = ap (λ (b : Bool). record (pass_of hall v marks spare) { look = e.0; ready = b }) (le-ltb e.0 9223372036854775808 e.1) } in
-    subst (λ (z : View _). IsWorn (pass_of hall v marks spare) (pass_of hall z marks spare)) (sym e.2) late
 
 -- after a join and a load, the pass has seen a history that begins with what both had seen
 pub begins_with_both : {B E : Type 0} (me : Me (Option B) (View E)) (w : View E) (me1 me2 : Me (Option B) (View E)) → me1 ≡ (after_join me.0 w, me.1) → me2 ≡ me1 → BeginsBoth me1.0

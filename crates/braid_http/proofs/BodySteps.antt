@@ -10,7 +10,7 @@ use Rattle.braid_ids.specs.Lists.{Lacks}
 use Rattle.braid_http.specs.declared.response.BodyKind.TheVariants as kinds
 use Rattle.braid_http.specs.declared.around.TrailerLine.{TrailerLine}
 use Rattle.braid_http.specs.declared.around.TrailerLine.TheVariants.{Empty, Cr, Full}
-use Rattle.braid_http.specs.Heads.{line, lines, IsEmptyLine, IsFullLine, HasNoBlock}
+use Rattle.braid_http.specs.Heads.{line, lines, IsFullLine, HasNoBlock}
 use Rattle.braid_http.specs.Chunks.{IsCut, Announces, Chunk, IsChunk, print_chunk, chunk_data, IsTrailer, bad_chunk, done, last, unread, departs, long_trailer}
 use Rattle.braid_http.specs.Bodies.{IsChunkedBody, IsInLine, IsInChunk, IsBehindChunk, IsBehindLast, in_line, behind_chunk, behind_last, IsAgainst}
 use Rattle.braid_http.specs.BodySteps.{IsPartOf, Turns, IsTrailing}
@@ -66,16 +66,6 @@ draws_end a b held mid kept i j k x y = record { draws = draws_both a b held mid
 
 more_of : (cs : List Chunk) (begun b : List ℕ) (byte : ℕ) → b ≡ flat_map print_chunk cs ++ begun → b ++ byte ∷ [] ≡ flat_map print_chunk cs ++ (begun ++ byte ∷ [])
 more_of cs begun b byte e = ap (λ z. z ++ byte ∷ []) e ∙ append_assoc (flat_map print_chunk cs) begun (byte ∷ [])
-
-pub line_more : (old new content b : List ℕ) (byte : ℕ) → new ≡ old ++ byte ∷ [] → length new < 256 → Lacks 10 new → IsInLine old content b → IsInLine new content (b ++ byte ∷ [])
-line_more old new content b byte e short lacks i = record {
-  chunks = i.chunks;
-  each = i.each;
-  lacks = lacks;
-  short = short;
-  passed_is = more_of i.chunks old b byte i.passed_is ∙ ap (λ z. flat_map print_chunk i.chunks ++ z) (sym e);
-  content_is = i.content_is;
-}
 
 pub line_last : (old content b : List ℕ) (byte : ℕ) → Announces (old ++ byte ∷ []) 0 → IsInLine old content b → IsTrailing 16_384 Empty content (b ++ byte ∷ [])
 line_last old content b byte a i = record {
@@ -135,18 +125,6 @@ behind_more cs l whole end b byte e = ap (λ z. z ++ byte ∷ []) e ∙ regroup 
   where
     regroup : (a c d f g : List ℕ) → (a ++ (c ++ (d ++ f))) ++ g ≡ a ++ (c ++ (d ++ (f ++ g)))
     regroup a c d f g = simp append_assoc
-
-pub behind_cr : (content b : List ℕ) (byte : ℕ) → byte ≡ 13 → IsBehindChunk [] content b → IsBehindChunk (13 ∷ []) content (b ++ byte ∷ [])
-behind_cr content b byte e i = record {
-  chunks = i.chunks;
-  line = i.line;
-  whole = i.whole;
-  each = i.each;
-  announces = i.announces;
-  some = i.some;
-  passed_is = behind_more i.chunks i.line i.whole [] b byte i.passed_is ∙ ap (λ z. flat_map print_chunk i.chunks ++ (i.line ++ (i.whole ++ z ∷ []))) e;
-  content_is = i.content_is;
-}
 
 pub behind_lf : (content b : List ℕ) (byte : ℕ) → byte ≡ 10 → IsBehindChunk (13 ∷ []) content b → IsInLine [] content (b ++ byte ∷ [])
 behind_lf content b byte e i =
@@ -237,22 +215,6 @@ trailing_bad left t u content b byte i few turn = record {
   };
 }
 
-pub trailing_on : (left : ℕ) (t u : TrailerLine) (content b : List ℕ) (byte : ℕ) (i : IsTrailing left t content b) → 1 < left → Turns (Some u) i.full i.part byte → IsTrailing (left - 1) u content (b ++ byte ∷ [])
-trailing_on left t u content b byte i many turn = record {
-  chunks = i.chunks;
-  last = i.last;
-  full = turn.0;
-  part = turn.1;
-  each = i.each;
-  announces = i.announces;
-  lines_are = turn.2;
-  part_is = turn.3;
-  count = (let c = i.count in let n = ap length turn.4 ∙ length-append (lines i.full ++ i.part) (byte ∷ []) in omega (arith, c, n, many));
-  some = omega (arith, many);
-  passed_is = trailing_more i.chunks i.last (lines i.full ++ i.part) b byte i.passed_is ∙ ap (λ z. flat_map print_chunk i.chunks ++ (i.last ++ z)) (sym turn.4);
-  content_is = i.content_is;
-}
-
 pub trailing_done : (left : ℕ) (t : TrailerLine) (content b : List ℕ) (byte : ℕ) (i : IsTrailing left t content b) → Turns None i.full i.part byte → IsChunkedBody content (b ++ byte ∷ [])
 trailing_done left t content b byte i turn =
     let end : (lines i.full ++ i.part) ++ byte ∷ [] ≡ lines i.full ++ line i.part = append_assoc (lines i.full) i.part (byte ∷ []) ∙ ap (λ z. lines i.full ++ (i.part ++ z ∷ [])) turn.1 in
@@ -275,14 +237,8 @@ trailing_done left t content b byte i turn =
 
 -- the turns of a line
 
-pub turn_end : (part : List ℕ) (full : List (List ℕ)) (byte : ℕ) → IsEmptyLine part → byte ≡ 10 → Turns None full part byte
-turn_end part full byte e l = (e, l)
-
 longer : (full : List (List ℕ)) (part begun : List ℕ) (byte : ℕ) → begun ≡ part ++ byte ∷ [] → lines full ++ begun ≡ (lines full ++ part) ++ byte ∷ []
 longer full part begun byte e = ap (λ z. lines full ++ z) e ∙ sym (append_assoc (lines full) part (byte ∷ []))
-
-pub turn_cr : (full : List (List ℕ)) (part : List ℕ) (byte : ℕ) → AllByRecursion IsFullLine full → part ≡ [] → byte ≡ 13 → Turns (Some Cr) full part byte
-turn_cr full part byte each e c = (full, byte ∷ [], each, ap (λ z. z ∷ []) c, longer full part (byte ∷ []) byte (ap (λ z. z ++ byte ∷ []) (sym e)))
 
 pub turn_first : (full : List (List ℕ)) (part : List ℕ) (byte : ℕ) → AllByRecursion IsFullLine full → part ≡ [] → byte ≢ 10 → byte ≢ 13 → Turns (Some Full) full part byte
 turn_first full part byte each e n m =

@@ -147,10 +147,6 @@ chunk_refused r start held out new place count f i j c y is l = go f l
     go BothLengths a = absurd a
     go BadLength a = absurd a
 
--- want of memory for the data
-pub chunk_memory : (head start held out : List ℕ) (place : Place) (count : ℕ) (i j : Intake) → Chunking head start place count held out i j → Stops stops.Memory start held i j
-chunk_memory head start held out place count i j c = (c.all, head ++ c.passed, c.took, c.whole)
-
 -- what the decoding falls by
 pub falls : (n count : ℕ) (held kept : List ℕ) → kept ≡ drop n held → 0 < n → n ≤ length held → count + n ≤ 543_162_624
     → 3 * (543_162_624 - (count + n)) + (16_384 - length kept) < 3 * (543_162_624 - count) + (16_384 - length held)

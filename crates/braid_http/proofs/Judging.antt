@@ -56,14 +56,6 @@ head_slice end look bytes a =
     ap (λ z. drop z bytes) start_is ∙ ap (drop (length begin)) (a.whole ∙ append_assoc begin (head_bytes a.text) a.rest) ∙ drop_at begin (head_bytes a.text ++ a.rest) (length begin) refl in
     ap (λ z. take z (drop look.start bytes)) long ∙ ap (take (length (head_bytes a.text))) behind ∙ take_at (head_bytes a.text) a.rest (length (head_bytes a.text)) refl
 
-pub start_before : (end : ℕ) (look : HeadLook) (bytes : List ℕ) → IsHeadAt end look bytes → (look.start ≤ end) × (end ≤ length bytes)
-start_before end look bytes a =
-    let start_is = a.start_is in
-    let end_is = a.end_is in
-    let size = length-append (lines a.text.blank) (head_bytes a.text) in
-    let all = ap length a.whole ∙ length-append (text_bytes a.text) a.rest in
-    (omega (arith, start_is, end_is, size), omega (arith, end_is, all))
-
 pub unread_head : (end : ℕ) (look : HeadLook) (bytes head : List ℕ) → IsHeadAt end look bytes → end ≤ 16_384 → look.look.full ≤ 65 → head ≡ take (end - look.start) (drop look.start bytes)
     → ((h : RequestHead) → ¬ (IsWhole head h)) → (rest : List ℕ) × IsDecided (refused BadHead) bytes rest
 unread_head end look bytes head a short few is none =

@@ -112,14 +112,6 @@ blank_more rest bytes c after b i e = record {
   whole = b.whole ∙ ap (λ w. lines b.blank ++ w) e ∙ sym (lines_push b.blank c after);
 }
 
-pub begins_full : (rest c after : List ℕ) → Lacks 10 c → rest ≡ c ++ 10 ∷ after → (IsEmptyLine c → ⊥) → BeginsFull rest
-begins_full rest c after h e n d more i f =
-    let s = one_split 10 d more c after (empty_lacks d i) h (sym (line-append d more) ∙ sym f ∙ e) in
-    n (rw s.0 at i)
-
-pub lacks_begins : (rest : List ℕ) → Lacks 10 rest → BeginsFull rest
-lacks_begins rest h d more i f = no_line rest d more h f
-
 -- full lines were passed
 pub record Fulls (count : ℕ) (rest bytes : List ℕ) : Type 0 where
   pub full : List (List ℕ)
@@ -127,15 +119,6 @@ pub record Fulls (count : ℕ) (rest bytes : List ℕ) : Type 0 where
   pub whole : bytes ≡ lines full ++ rest
   pub number : count ≡ length full
   pub few : count + length rest ≤ length bytes
-
-pub full_more : (count : ℕ) (rest bytes c after : List ℕ) → Fulls count rest bytes → Lacks 10 c → (IsEmptyLine c → ⊥) → rest ≡ c ++ 10 ∷ after → Fulls (count + 1) after bytes
-full_more count rest bytes c after b h n e = record {
-  full = b.full ++ c ∷ [];
-  each = push_each _ b.full c b.each (full_of c h n);
-  whole = b.whole ∙ ap (λ w. lines b.full ++ w) e ∙ sym (lines_push b.full c after);
-  number = let k = b.number in let l = length-append b.full (c ∷ []) in omega (arith, k, l);
-  few = let k = b.few in let l = ap length e ∙ length-append c (10 ∷ after) in omega (arith, k, l);
-}
 
 pub no_block_in : (fs : List (List ℕ)) (rest : List ℕ) → AllByRecursion IsFullLine fs → Lacks 10 rest → HasNoBlock (lines fs ++ rest)
 no_block_in [] rest f h [] last x g i e = no_line rest last x h e
@@ -148,9 +131,6 @@ no_block_in (c ∷ fs) rest f h (k ∷ gs) last x g i e =
     let s = same_line c k _ _ f.0.ended g.0.ended (sym (append_assoc (line c) (lines fs) rest) ∙ e ∙ ap (λ w. w ++ x) (append_assoc (line k) (lines gs) (line last)) ∙ append_assoc (line k) (lines gs ++ line last) x) in
     no_block_in fs rest f.1 h gs last x g.1 i s.1
 
-pub no_block : (count : ℕ) (rest bytes : List ℕ) → Fulls count rest bytes → Lacks 10 rest → HasNoBlock bytes
-no_block count rest bytes b h full last x g i e = no_block_in b.full rest b.each h full last x g i (sym b.whole ∙ e)
-
 pub record Block (bytes : List ℕ) (count : ℕ) (after : List ℕ) : Type 0 where
   pub full : List (List ℕ)
   pub last : List ℕ
@@ -158,11 +138,6 @@ pub record Block (bytes : List ℕ) (count : ℕ) (after : List ℕ) : Type 0 wh
   pub ends : IsEmptyLine last
   pub number : count ≡ length full
   pub whole : bytes ≡ (lines full ++ line last) ++ after
-
-pub block_at : (count : ℕ) (rest bytes c after : List ℕ) → Fulls count rest bytes → IsEmptyLine c → rest ≡ c ++ 10 ∷ after
-    → (full : List (List ℕ)) × (last : List ℕ) × AllByRecursion IsFullLine full × IsEmptyLine last × (count ≡ length full) × (bytes ≡ (lines full ++ line last) ++ after)
-block_at count rest bytes c after b i e =
-    (b.full, c, b.each, i, b.number, b.whole ∙ ap (λ w. lines b.full ++ w) (e ∙ sym (line-append c after)) ∙ sym (append_assoc (lines b.full) (line c) after))
 
 pub no_head : (bytes start : List ℕ) (blank : List (List ℕ)) → AllByRecursion IsEmptyLine blank → bytes ≡ lines blank ++ start → BeginsFull start → HasNoBlock start → HasNoHead bytes
 no_head bytes start blank each whole begins none t rest i e = go blank t.blank each i.blank (sym whole ∙ e ∙ append_assoc (lines t.blank) (head_bytes t) rest)

@@ -35,14 +35,6 @@ behind_seen look bytes l =
     let whole : bytes ≡ (lines l.full ++ l.begun) ++ l.rest = l.whole ∙ sym (append_assoc (lines l.full) l.begun l.rest) in
     ap (λ z. drop z bytes) (l.seen_to ∙ sym (length-append (lines l.full) l.begun)) ∙ ap (drop (length (lines l.full ++ l.begun))) whole ∙ drop_at (lines l.full ++ l.begun) l.rest (length (lines l.full ++ l.begun)) refl
 
-pub seen_within : (look : Look) (bytes : List ℕ) → IsLooked look bytes → (look.line ≤ look.seen) × (look.seen ≤ length bytes)
-seen_within look bytes l =
-    let a = l.line_at in
-    let b = l.seen_to in
-    let c = ap length l.whole ∙ length-append (lines l.full) (l.begun ++ l.rest) in
-    let d = length-append l.begun l.rest in
-    (omega (arith, a, b), omega (arith, b, c, d))
-
 -- the line that ends next
 pub record Ends (look : Look) (bytes content : List ℕ) (end : ℕ) (l : IsLooked look bytes) : Type 0 where
   pub after : List ℕ
@@ -146,16 +138,6 @@ full_fits look bytes l =
     count [] = omega arith
     count (f ∷ fs) = let a = count fs in let b = length-append (line f) (lines fs) in let c = length-append f (10 ∷ []) in omega (arith, a, b, c)
 
--- what the look falls by
-pub look_falls : (look : Look) (bytes content : List ℕ) (end : ℕ) (l : IsLooked look bytes) → IsLineFrom bytes look.line look.seen content end → length bytes - end < length bytes - look.line
-look_falls look bytes content end l f =
-    let e = ends_next look bytes content end l f in
-    let at = e.end_is in
-    let line_is = l.line_at in
-    let size = ap length e.whole ∙ length-append (lines l.full) (content ++ 10 ∷ e.after) in
-    let behind = length-append content (10 ∷ e.after) in
-    omega (arith, at, line_is, size, behind)
-
 pub head_new : (bytes : List ℕ) → IsHeadLooked (record { start = 0; look = no_look }) bytes
 head_new bytes = record { blank = []; behind = bytes; each = tt; whole = refl; start_is = refl; looked = look_new bytes }
 
@@ -201,15 +183,6 @@ head_passed look bytes rest blank start h each e at =
       looked = look_new rest;
     }
 
--- where none were passed, the bytes begin with no empty line
-pub begins_still : (bytes rest : List ℕ) (blank : List (List ℕ)) → bytes ≡ lines blank ++ rest → length bytes ≤ length rest → BeginsFull rest → BeginsFull bytes
-begins_still bytes rest [] e l f = rw e f
-begins_still bytes rest (b ∷ blank) e l f =
-    let size = ap length e ∙ length-append (lines (b ∷ blank)) rest in
-    let more = length-append (line b) (lines blank) in
-    let one = length-append b (10 ∷ []) in
-    absurd (omega (arith, size, more, one, l))
-
 pub begins_passed : (bytes rest : List ℕ) (start : ℕ) (blank : List (List ℕ)) (old : ℕ) → drop old bytes ≡ lines blank ++ rest → old ≤ length bytes → start ≡ length bytes - length rest → BeginsFull rest → BeginsFull (drop start bytes)
 begins_passed bytes rest start blank old e within at f =
     let whole : bytes ≡ (take old bytes ++ lines blank) ++ rest = sym (take-append-drop old bytes) ∙ ap (λ z. take old bytes ++ z) e ∙ sym (append_assoc (take old bytes) (lines blank) rest) in
@@ -248,10 +221,6 @@ head_found look bytes l end h f b =
     some : (gs : List (List ℕ)) → drop look.start bytes ≡ (lines gs ++ line b.last) ++ b.rest → 0 < length gs
     some [] e = absurd (f b.last b.rest b.ends e)
     some (g ∷ gs) e = omega arith
-
--- an empty line at the front, by its first bytes
-pub blank_lf : (bytes rest : List ℕ) → bytes ≡ 10 ∷ rest → (content : List ℕ) × IsEmptyLine content × (bytes ≡ line content ++ rest)
-blank_lf bytes rest e = ([], inl refl, e)
 
 pub blank_crlf : (bytes rest : List ℕ) → bytes ≡ 13 ∷ 10 ∷ rest → (content : List ℕ) × IsEmptyLine content × (bytes ≡ line content ++ rest)
 blank_crlf bytes rest e = (13 ∷ [], inr refl, e)

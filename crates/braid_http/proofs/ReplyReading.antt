@@ -13,7 +13,6 @@ use Rattle.braid_http.specs.declared.stop.Stop.{Stop}
 use Rattle.braid_http.specs.declared.stop.Stop.TheVariants as stops
 use Rattle.braid_http.specs.declared.looks.HeadLook.{HeadLook}
 use Rattle.braid_http.specs.declared.response.BodyKind.{BodyKind}
-use Rattle.braid_http.specs.declared.response.ReplyHead.{ReplyHead}
 use Rattle.braid_http.specs.declared.response.ResponseParts.{ResponseParts}
 use Rattle.braid_http.specs.Heads.{HeadText, IsHeadText, IsHead, head_bytes, text_bytes, HasNoHead}
 use Rattle.braid_http.specs.Fields.{append_named}
@@ -22,7 +21,7 @@ use Rattle.braid_http.specs.Looks.{IsHeadAt}
 use Rattle.braid_http.specs.Waits.{Breaks}
 use Rattle.braid_http.specs.Responses.{IsWholeResponse, SaysReply, kind_of, reply_head_of, replied, refused, long_head, many_fields, bad_head, by_fields, head, IsReplyDecided, IsReplyOpen}
 use Rattle.braid_http.specs.ResponseReads.{HoldsReply}
-use Rattle.braid_http.specs.Replying.{TookForReply, TookForReplyAndFailed, AnswersReply, Replies, replied_of, JudgesReply}
+use Rattle.braid_http.specs.Replying.{TookForReply, TookForReplyAndFailed, Replies, replied_of}
 use Rattle.braid_http.proofs.LineLaws.{same_text}
 use Rattle.braid_http.proofs.WholeLemmas.{all_short, same_fields, few_fields, ends_there}
 use Rattle.braid_http.proofs.Judging.{head_slice}
@@ -161,18 +160,6 @@ breaks_reply stops.Torn start held kept i j k t o b = rw b.0 (same_end start hel
 breaks_reply stops.ReadFault start held kept i j k t o b = rw b.0 (failed_now start held i j k t b.1 b.2 b.3 b.4, o)
 breaks_reply stops.Memory start held kept i j k t o b = rw b.0 (same_end start held i j k t b.1)
 
--- a head that came gives no reply
-pub judged_reply : (s : Stop) (start held : List ℕ) (i j : Intake) → TookForReply start held i j → JudgesReply s held → Replies (replied_of s) start held i j
-judged_reply stops.End start held i j t d = absurd d
-judged_reply (stops.Refused f) start held i j t d = (d.0, record { all = held; took = t; decided = d.1 })
-judged_reply stops.Torn start held i j t d = absurd d
-judged_reply stops.ReadFault start held i j t d = absurd d
-judged_reply stops.Memory start held i j t d = t
-
 -- 524,288 bytes without a head
 pub long_reply : (start held : List ℕ) (i j : Intake) → TookForReply start held i j → 524_288 ≤ length held → HasNoHead held → Replies (replied_of (stops.Refused LongHead)) start held i j
 long_reply start held i j t l n = let d = refuse_long held l (λ u rest k e. absurd (n u rest k e)) in (d.0, record { all = held; took = t; decided = d.1 })
-
--- a head that came
-pub answered_reply : (x : ReplyHead) (start held bytes : List ℕ) (end : ℕ) (i j : Intake) → TookForReply start held i j → bytes ≡ held → IsReplyDecided (replied x) bytes (drop end bytes) → AnswersReply (replied x) start (drop end held) i j
-answered_reply x start held bytes end i j t e d = record { all = held; took = t; decided = rw e at d }

@@ -144,9 +144,6 @@ if_judged (Err s) start bytes held i j t e d = judged s start held i j t (rw e a
 pub head_some : (b : List ℕ) (t : HeadText) → IsHead 16_384 b t → 0 < length b
 head_some b t i = let k = ap length i.spelled in let m = text_some t i.text in omega (arith, k, m)
 
-pub ready_within : (r : Ready) (bytes : List ℕ) → IsReady r bytes → r.used ≤ length bytes
-ready_within r bytes y = let a = y.used_is in let b = ap length y.whole ∙ length-append y.front y.rest in omega (arith, a, b)
-
 pub ready_some : (r : Ready) (bytes : List ℕ) → IsReady r bytes → bytes ≢ []
 ready_some r bytes y e =
     let a = ap length e in
@@ -228,7 +225,3 @@ asked_chunked start kept content i j r q c y f e =
       decides = rw (same_request q r y.read content content y.holds refl e) (chunked (y.front ++ c.body) y.front c.body content y.text y.read y.is (subst (Says y.text y.read) f y.says) c.is refl);
       whole = c.whole ∙ ap (λ z. (z ++ c.body) ++ kept) (front_is r start y);
     })
-
--- what was taken stands before what is kept, where there is no memory for the request
-pub chunks_memory : (start kept content head : List ℕ) (i j : Intake) → TookChunks content head start kept i j → Stops stops.Memory start kept i j
-chunks_memory start kept content head i j c = (c.all, head ++ c.body, c.took, c.whole)

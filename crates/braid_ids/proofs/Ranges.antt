@@ -133,9 +133,6 @@ before_last ps m q e =
 pub before_none : (ps : List Piece) (m : Piece) → slice_get ps (length ps - 1) ≡ None → BeginsBeforeLast ps m → ⊥
 before_none ps m e b = subst (λ (t : List Piece). BeginsBeforeLast t m) (no_last ps e) b
 
-pub first_pushed : (m : Piece) (ps : List Piece) → slice_get ps (length ps - 1) ≡ None → ps ++ m ∷ [] ≡ with_piece m ps
-first_pushed m ps e = subst (λ (t : List Piece). t ++ m ∷ [] ≡ with_piece m t) (sym (no_last ps e)) refl
-
 pub pushed : (m q : Piece) (ps : List Piece) → m.from < m.to → ArePieces 0 ps → (BeginsBeforeLast ps m → ⊥) → slice_get ps (length ps - 1) ≡ Some q → q.to < m.from → ps ++ m ∷ [] ≡ with_piece m ps
 pushed m q ps a r b e past =
     let at = last_at ps q e in

@@ -116,13 +116,6 @@ module _ (agent : List ℕ) (H : List UpdateView) (ns : List ℕ) (c : ℕ) (fla
   pub same_view : (H' : List UpdateView) (ns' : List ℕ) (c' : ℕ) → H' ≡ H → ns' ≡ ns → c' ≡ c → replica_in agent H' ns' c' ≡ q
   same_view H' ns' c' h n m = (λ i. replica_in agent (h i) (n i) (m i)) ∙ e
 
-  pub same_kept : (H' : List UpdateView) (ns' : List ℕ) (c' : ℕ) (flags' : List Bool) → H' ≡ H → ns' ≡ ns → c' ≡ c → flags' ≡ flags → IsKept agent H' ns' c' flags'
-  same_kept H' ns' c' flags' h n m f =
-      subst (λ (t : List UpdateView). IsKept agent t ns' c' flags') (sym h)
-      (subst (λ (t : List ℕ). IsKept agent H t c' flags') (sym n)
-      (subst (λ (t : ℕ). IsKept agent H ns t flags') (sym m)
-      (subst (IsKept agent H ns c) (sym f) k)))
-
   -- the first unsent update is confirmed
   module _ (some : 0 < length q.unsent) where
     pub first_number : (n : ℕ) × (slice_get ns c ≡ Some n)
@@ -161,10 +154,6 @@ same_id v w h = subst (λ (t : List ℕ). is_eq (id_cmp v t) ≡ true) (sym (sam
     go : (b : Bool) → false ≡ not b → b ≡ true
     go true t = refl
     go false t = cc
-
-pub no_first : (v : List ℕ) (us : List UpdateView) → None ≡ slice_get us 0 → false ≡ has_first v us
-no_first v [] e = refl
-no_first v (u ∷ us) e = cc
 
 pub other_first : (v w : List ℕ) (u : UpdateView) (us : List UpdateView) → Some u ≡ slice_get us 0 → w ≡ u.id → true ≡ not (pointwise nat_eq w v) → false ≡ has_first v us
 other_first v w u [] e f h = cc

@@ -17,7 +17,7 @@ use Rattle.braid_text.proofs.Held.{holds_version, version_holds}
 use Rattle.braid_text.proofs.Judged.{updates_Decide, none_missing, missing_none}
 use Rattle.braid_text.proofs.Logs.{Has, false_from, has_holds, holds_has}
 use Rattle.braid_text.proofs.Ties.{holds_log, log_holds, legal_graph}
-use Rattle.braid_outbox.specs.Replicas.{ReplicaView, IsSound, all_of}
+use Rattle.braid_outbox.specs.Replicas.{ReplicaView, all_of}
 use Rattle.braid_outbox.specs.Learns.{is_first}
 use Rattle.braid_outbox.specs.Kept.{picked, replica_in, IsKept}
 use Rattle.braid_outbox.proofs.Picked.{picked_number, number_picked}
@@ -52,8 +52,6 @@ first_not u [] e = refl
 first_not u (w ∷ us) e = cc
 
 module _ (agent : List ℕ) (H : List UpdateView) (ns : List ℕ) (c : ℕ) (flags : List Bool) (k : IsKept agent H ns c flags) (q : ReplicaView) (e : replica_in agent H ns c ≡ q) where
-  pub sound_now : IsSound q
-  sound_now = subst IsSound e k.sound
 
   abbrev C : List UpdateView
   C = picked H (take c ns)
@@ -153,15 +151,6 @@ missing_next C F i v e h s = s ∙ ap (λ (G : List (List ℕ)). first_missing G
 
 pub missing_here : (C : List UpdateView) (F : List (List ℕ)) (i : ℕ) (v : List ℕ) → Some v ≡ slice_get F i → (Holds (graph_of C) v → ⊥) → first_missing F (reverse C) ≡ first_missing (drop i F) (reverse C) → Some v ≡ first_missing F (reverse C)
 missing_here C F i v e out s = sym (s ∙ ap (λ (G : List (List ℕ)). first_missing G (reverse C)) (missing_at C F i v e) ∙ ap (λ (b : Bool). cond b (first_missing (drop (i + 1) F) (reverse C)) (Some v)) (false_from (has_version v (versions_in (reverse C))) (λ t. out (log_holds C v (version_holds (reverse C) v t)))))
-
-pub missing_none_left : (C : List UpdateView) (F : List (List ℕ)) (i : ℕ) → length F ≤ i → first_missing F (reverse C) ≡ first_missing (drop i F) (reverse C) → None ≡ first_missing F (reverse C)
-missing_none_left C F i far s = sym (s ∙ ap (λ (G : List (List ℕ)). first_missing G (reverse C)) (drop_all F i far))
-  where
-    drop_all : (G : List (List ℕ)) (j : ℕ) → length G ≤ j → drop j G ≡ []
-    drop_all [] zero l = refl
-    drop_all [] (suc j) l = refl
-    drop_all (x ∷ G) zero l = absurd (omega (arith, l))
-    drop_all (x ∷ G) (suc j) l = drop_all G j (omega (arith, l))
 
 pub some_missing : (C : List UpdateView) (F : List (List ℕ)) (v : List ℕ) → Some v ≡ first_missing F (reverse C) → IsTrue false ↔ HoldsAll (graph_of C) F
 some_missing C F v e = ((λ t. cc), (λ all. absurd (let n = missing_none F (reverse C) (λ p m. holds_has (reverse C) p (holds_log C p (all p (member_contains F p m)))) in cc)))

@@ -66,9 +66,6 @@ module _ (limits : Room) (r : ReplicaView) (u : UpdateView) (sound : IsSound r) 
       ∙ ap (λ (o : Option Accept). Judged (unwrap_or (first_there o (first_there (refusal_to C u) (first_full (needs_of (all_of r) u) (room_of limits (all_of r))))) New)) c
       ∙ ap (λ (o : Option Accept). Judged (unwrap_or (first_there x (first_there o (first_full (needs_of (all_of r) u) (room_of limits (all_of r))))) New)) g
 
-  pub first_answer : is_first u O ≡ true → learn_answer limits r u ≡ Confirmed
-  first_answer h = ap (λ (b : Bool). cond b Confirmed (Judged (unwrap_or (first_there (clash u (find_in u.id O)) (first_there (refusal_to C u) (first_full (needs_of (all_of r) u) (room_of limits (all_of r))))) New))) h
-
   no_clash : ((w : UpdateView) → Member w O → w.id ≡ u.id → w ≡ u) → clash u (find_in u.id O) ≡ None
   no_clash same = go (find_in u.id O) refl
     where
@@ -205,6 +202,3 @@ module _ (limits : Room) (r : ReplicaView) (u : UpdateView) (sound : IsSound r) 
 -- where there was no memory to answer, there was none to judge
 pub memory_told : (limits : Room) (a : Accept) → told limits (Judged a) ≢ NoMemory → a ≢ Memory
 memory_told limits a h e = h (ap (λ (b : Accept). told limits (Judged b)) e)
-
-pub memory_left : (limits : Room) (a : Accept) → told limits (Judged a) ≡ NoMemory → a ≢ New
-memory_left limits a h e = let g : told limits (Judged New) ≡ NoMemory = subst (λ (b : Accept). told limits (Judged b) ≡ NoMemory) e h in cc

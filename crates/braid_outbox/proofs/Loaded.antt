@@ -1,5 +1,5 @@
 -- A replica that is made of two lists, one update after the other.
-use Rattle.std.proofs.Common.{◌≡◌, ◌≢◌, ◌↔◌, ℕ, ◌<◌, ◌≤◌, ◌+◌, ◌-◌, List, Bool, true, not, [], ◌∷◌, ◌++◌, refl, sym, ap, subst, ◌∙◌, inl, arith, length, take, reverse, Some, zero, suc, length-append, append_assoc, append-nil}
+use Rattle.std.proofs.Common.{◌≡◌, ◌≢◌, ◌↔◌, ℕ, ◌<◌, ◌≤◌, ◌+◌, ◌-◌, List, Bool, not, [], ◌∷◌, ◌++◌, refl, sym, ap, subst, ◌∙◌, inl, arith, length, take, reverse, Some, zero, suc, length-append, append_assoc, append-nil}
 use Rattle.std.proofs.lemmas.List.{take_all, length-reverse, length-map}
 use Rattle.std.proofs.lemmas.List.Filters.{length-filter_both}
 use Rattle.std.specs.List.{Contains, slice_get}
@@ -109,9 +109,6 @@ behind (x ∷ cs) os (suc i) j e = behind cs os i j (omega (arith, e))
 pub last_entry : (q : ReplicaView) (n i : ℕ) (u : UpdateView) → n ≡ length q.unsent → (n ≡ 0 → ⊥) → i ≡ length q.confirmed + n - 1 → Some u ≡ slice_get (all_of q) i → last_id q.unsent ≡ Some u.id
 last_entry q n i u l some at e = last_at q.unsent (n - 1) u (omega (arith, l, some)) (sym (behind q.confirmed q.unsent i (n - 1) (omega (arith, at, some))) ∙ sym e)
 
-pub holds_last : (os : List UpdateView) (ps : List (List ℕ)) (v : List ℕ) (b : Bool) → last_id os ≡ Some v → (b ≡ true) ↔ Contains ps v → (b ≡ true) ↔ ((w : List ℕ) → last_id os ≡ Some w → Contains ps w)
-holds_last os ps v b e s = ((λ t w f. let g : v ≡ w = cc in subst (Contains ps) g (s.0 t)), (λ h. s.1 (h v e)))
-
 -- the first entries of both lists
 abbrev nothing : List UpdateView
 nothing = []
@@ -119,13 +116,6 @@ nothing = []
 pub take_none : (n : ℕ) → take n nothing ≡ nothing
 take_none zero = refl
 take_none (suc n) = refl
-
-pub confirmed_bad : (C : List UpdateView) (n : ℕ) (u : UpdateView) → Some u ≡ slice_get C n → n < length C → IsFine (take n C) [] → (IsFine (take n C ++ u ∷ []) [] → ⊥) → IsFirstBad C [] n
-confirmed_bad C n u at l fine bad = record {
-  there = omega (arith, l, length-append C []);
-  before = subst (IsFine (take n C)) (sym (take_none (n - length C))) fine;
-  bad = λ h. bad (subst (λ (t : List UpdateView). IsFine t []) (take_next C n u (sym at)) (subst (IsFine (take (n + 1) C)) (take_none ((n + 1) - length C)) h));
-}
 
 pub bad_before : (C O : List UpdateView) (n : ℕ) → n < length C → IsFirstBad C [] n → IsFirstBad C O n
 bad_before C O n l b = record {

@@ -1,6 +1,6 @@
 -- What is read of a replica, and where it resumes.
-use Rattle.std.proofs.Common.{◌≡◌, ◌↔◌, ℕ, ◌<◌, ◌≤◌, ◌+◌, List, Bool, [], ◌∷◌, ◌++◌, refl, sym, ap, subst, ◌∙◌, arith, length, take, reverse, Some, zero, suc, length-append, length-take}
-use Rattle.std.proofs.lemmas.List.{take_all, length-map, map-append}
+use Rattle.std.proofs.Common.{◌≡◌, ◌↔◌, ℕ, ◌<◌, ◌≤◌, ◌+◌, List, Bool, [], ◌∷◌, ◌++◌, refl, sym, ap, subst, ◌∙◌, arith, length, take, reverse, Some, zero, suc}
+use Rattle.std.proofs.lemmas.List.{take_all, map-append}
 use Rattle.std.specs.List.{Contains, slice_get}
 use Rattle.std.specs.declared.result.Result.{Result}
 use Rattle.std.specs.declared.result.Result.TheVariants.{Ok, Err}
@@ -77,14 +77,8 @@ module _ (q : ReplicaView) (sound : IsSound q) (n : ℕ) (within : n < length q.
   pub graph_held : (es : List GraphEntry) → es ≡ graph_of (take n q.confirmed) → (parents : List (List ℕ)) → parents ≡ u.parents → HoldsAll es parents
   graph_held es e parents f = subst (HoldsAll es) (sym f) (subst (λ (t : List GraphEntry). HoldsAll t u.parents) (sym (e ∙ take_map q.confirmed n)) (history.parents_first n (entry_of u) (get_map q.confirmed n u here)))
 
-  pub graph_few : (es : List GraphEntry) → es ≡ graph_of (take n q.confirmed) → length (all_of q) ≤ 524288 → length es < 524288
-  graph_few es e few = omega (arith, ap length e, length-map (take n q.confirmed) entry_of, length-take n q.confirmed, within, few, length-append q.confirmed q.unsent)
-
   pub graph_next : (es es' : List GraphEntry) (id : List ℕ) (parents : List (List ℕ)) → es ≡ graph_of (take n q.confirmed) → id ≡ u.id → parents ≡ u.parents → es' ≡ es ++ record { id = id; parents = parents } ∷ [] → es' ≡ graph_of (take (n + 1) q.confirmed)
   graph_next es es' id parents e f g s = s ∙ (λ i. e i ++ record { id = f i; parents = g i } ∷ []) ∙ sym (ap graph_of (take_next q.confirmed n u here) ∙ map-append entry_of (take n q.confirmed) (u ∷ []))
-
-pub graph_all : (us : List UpdateView) (n : ℕ) (es : List GraphEntry) → length us ≤ n → es ≡ graph_of (take n us) → es ≡ graph_of us
-graph_all us n es far e = e ∙ ap graph_of (take_all n us far)
 
 -- the identifiers that a replica resumes from
 pub resumes : (q : ReplicaView) (es : List GraphEntry) (F ids G : List (List ℕ)) → es ≡ graph_of q.confirmed → IsFrontierOf es F → ids ≡ take 32 F → IsRising G → ((v : List ℕ) → Contains G v ↔ Contains ids v) → G ≡ resume_of q
@@ -96,9 +90,6 @@ resumes q es F ids G e is s rising same = same_rising G (take 32 F) rising (take
 -- the first identifiers of a frontier
 pub least_next : (F ids ids' : List (List ℕ)) (n : ℕ) (v w : List ℕ) → (ids ≡ take n F) × (n ≤ 32) → (n ≡ 32 → ⊥) → Some v ≡ slice_get F n → w ≡ v → ids' ≡ ids ++ w ∷ [] → (ids' ≡ take (n + 1) F) × (n + 1 ≤ 32)
 least_next F ids ids' n v w k other at e s = (s ∙ (λ i. k.0 i ++ e i ∷ []) ∙ sym (take_next F n v (sym at)), omega (arith, k.1, other))
-
-pub least_full : (F ids : List (List ℕ)) (n : ℕ) → ids ≡ take n F → n ≡ 32 → ids ≡ take 32 F
-least_full F ids n e f = e ∙ ap (λ (m : ℕ). take m F) f
 
 pub least_end : (F ids : List (List ℕ)) (n : ℕ) → (ids ≡ take n F) × (n ≤ 32) → length F ≤ n → ids ≡ take 32 F
 least_end F ids n k far = k.0 ∙ take_all n F far ∙ sym (take_all 32 F (omega (arith, far, k.1)))

@@ -1,5 +1,5 @@
 -- What a write rests on: the agent's numbers, the next pure merge at each step, and what a change needs.
-use Rattle.std.proofs.Common.{◌≡◌, ◌↔◌, ℕ, ◌<◌, ◌≤◌, ◌+◌, ◌-◌, ◌^◌, List, Bool, true, false, ◌&&◌, not, cond, nat_lt, nat_le, [], ◌∷◌, ◌++◌, refl, sym, ap, subst, ◌∙◌, inl, arith, length, min, max, filter, take, reverse, Option, None, Some, IsSome, is_some, unwrap_or, zero, suc, length-append, append_assoc, append-nil}
+use Rattle.std.proofs.Common.{◌≡◌, ◌↔◌, ℕ, ◌<◌, ◌≤◌, ◌+◌, ◌-◌, ◌^◌, List, Bool, true, false, ◌&&◌, not, cond, nat_lt, nat_le, [], ◌∷◌, ◌++◌, refl, sym, ap, subst, ◌∙◌, inl, arith, length, min, max, filter, take, reverse, Option, None, Some, is_some, unwrap_or, zero, suc, length-append, append_assoc, append-nil}
 use Rattle.std.proofs.lemmas.List.{reverse-append, take_all, take-append-le, take-append-drop, length-map}
 use Rattle.std.proofs.lemmas.List.Elements.{filter-append}
 use Rattle.std.proofs.lemmas.List.Filters.{length-filter_both}
@@ -33,15 +33,13 @@ use Rattle.braid_text.specs.Refusals.{first_full}
 use Rattle.braid_text.specs.Answers.{IsOver, room_of}
 use Rattle.braid_text.specs.declared.room.Room.{Room}
 use Rattle.braid_text.specs.declared.room.Which.{Which}
-use Rattle.braid_text.specs.declared.accept.Accept.{Accept}
 use Rattle.braid_text.proofs.Public.{frontier_log, needs_elements, needs_deletions, document_counted}
-use Rattle.braid_text.proofs.Same.{and_true}
 use Rattle.braid_text.proofs.Whole.{and_cases}
 use Rattle.braid_outbox.specs.Shapes.{is_change}
 use Rattle.braid_text.specs.Rooms.{replica_limits}
 use Rattle.braid_outbox.specs.Replicas.{ReplicaView, IsSound, all_of, log_of, frontier, number, greatest_number}
-use Rattle.braid_outbox.specs.Writes.{next_in, last_id, merged_of, merge_parents, merges_in, merges_of, merges_needed, next_merge, last_number, write_needs, is_written, additions, with_unsent, write, AddsMerges}
-use Rattle.braid_outbox.proofs.Shapes.{lt_to, lt_from, shaped_from}
+use Rattle.braid_outbox.specs.Writes.{next_in, last_id, merged_of, merge_parents, merges_in, merges_of, merges_needed, next_merge, last_number, write_needs, is_written, with_unsent, AddsMerges}
+use Rattle.braid_outbox.proofs.Shapes.{lt_from, shaped_from}
 use Rattle.braid_outbox.proofs.Names.{number_name, number_is, next_greatest}
 use Rattle.braid_outbox.proofs.Calls.{other_id, same_id}
 use Rattle.braid_outbox.proofs.Fronts.{merge_names, same_rising}
@@ -125,9 +123,6 @@ log_with r ms = ap reverse (sym (append_assoc r.confirmed r.unsent ms)) ∙ reve
 pub more_unsent : (r : ReplicaView) (xs ys : List UpdateView) → with_unsent (with_unsent r xs) ys ≡ with_unsent r (xs ++ ys)
 more_unsent r xs ys = ap (λ (t : List UpdateView). record { agent = r.agent; confirmed = r.confirmed; unsent = t }) (append_assoc r.unsent xs ys)
 
-pub none_unsent : (r : ReplicaView) → r ≡ with_unsent r []
-none_unsent r = ap (λ (t : List UpdateView). record { agent = r.agent; confirmed = r.confirmed; unsent = t }) (sym (append-nil r.unsent))
-
 module _ (r : ReplicaView) (agent : IsAgent r.agent) (sound : IsSound r) (count first : ℕ) (counted : count ≡ merges_needed (length (frontier (all_of r)))) (begins : first ≡ 1 + greatest_number r.agent (log_of r)) (small : first + count < 2 ^ 64) where
   abbrev ms : List UpdateView
   ms = merges_of r
@@ -161,17 +156,8 @@ module _ (r : ReplicaView) (agent : IsAgent r.agent) (sound : IsSound r) (count 
   pub change_number : (q : ReplicaView) → q ≡ with_unsent r ms → first + count ≡ 1 + greatest_number q.agent (log_of q)
   change_number q e = let g = (merges_well r agent sound within).greatest in let s = ap (λ (t : ReplicaView). greatest_number t.agent (log_of t)) e in let d = ap (greatest_number r.agent) (log_with r ms) in let z = size in omega (arith, g, s, d, z, begins)
 
-  pub change_added : (q s : ReplicaView) (c : Change) → q ≡ with_unsent r ms → s ≡ with_unsent q (next_in q.agent (log_of q) (frontier (log_of q)) c ∷ []) → s ≡ with_unsent r (additions r c)
-  change_added q s c e f = f ∙ ap (λ (t : ReplicaView). with_unsent t (next_in t.agent (log_of t) (frontier (log_of t)) c ∷ [])) e
-      ∙ more_unsent r ms (next_in r.agent (log_of (with_unsent r ms)) (frontier (log_of (with_unsent r ms))) c ∷ [])
-      ∙ ap (λ (us : List UpdateView). with_unsent r (ms ++ next_in r.agent us (frontier us) c ∷ [])) (log_with r ms)
-
   pub last_is : first + count ≡ last_number r
   last_is = omega (arith, begins, counted)
-
--- a written change
-pub written_is : (limits : Room) (r q : ReplicaView) (c : Change) → is_written limits r c ≡ true → q ≡ with_unsent r (additions r c) → q ≡ write limits r c
-written_is limits r q c due e = e ∙ sym (ap (λ (b : Bool). cond b (with_unsent r (additions r c)) r) due)
 
 pub numbers_fit : (limits : Room) (r : ReplicaView) (c : Change) → is_written limits r c ≡ true → last_number r < 2 ^ 64
 numbers_fit limits r c due = lt_from (last_number r) (2 ^ 64) (and_cases n f (and_cases s (n && f) (and_cases (is_change c) (s && (n && f)) due).1).1).0
@@ -184,25 +170,6 @@ numbers_fit limits r c due = lt_from (last_number r) (2 ^ 64) (and_cases n f (an
 
     f : Bool
     f = not (is_some (first_full (write_needs r c) (room_of limits (all_of r))))
-
-pub is_due : (limits : Room) (r : ReplicaView) (c : Change) → is_change c ≡ true → IsSome (spliced (text_of (all_of r)) c) → last_number r < 2 ^ 64 → first_full (write_needs r c) (room_of limits (all_of r)) ≡ None → is_written limits r c ≡ true
-is_due limits r c shaped fits small none = and_true (is_change c) (s && (n && f)) shaped (and_true s (n && f) fits (and_true n f (lt_to (last_number r) (2 ^ 64) small) (ap (λ (o : Option Accept). not (is_some o)) none)))
-  where
-    s : Bool
-    s = is_some (spliced (text_of (all_of r)) c)
-
-    n : Bool
-    n = nat_lt (last_number r) (2 ^ 64)
-
-    f : Bool
-    f = not (is_some (first_full (write_needs r c) (room_of limits (all_of r))))
-
--- what is left where nothing, or not all, was added
-pub adds_none : (limits : Room) (r q : ReplicaView) (c : Change) → q ≡ r → AddsMerges limits r c q
-adds_none limits r q c e = record { count = 0; added = e ∙ none_unsent r; due = λ l. absurd (omega (arith, l)) }
-
-pub adds_some : (limits : Room) (r q : ReplicaView) (c : Change) → is_written limits r c ≡ true → (added : ℕ) × (q ≡ with_unsent r (take added (merges_of r))) → AddsMerges limits r c q
-adds_some limits r q c due a = record { count = a.0; added = a.1; due = λ l. due }
 
 pub adds_all : (limits : Room) (r q s : ReplicaView) (c : Change) → is_written limits r c ≡ true → q ≡ with_unsent r (merges_of r) → s ≡ q → AddsMerges limits r c s
 adds_all limits r q s c due e f = record { count = length (merges_of r); added = f ∙ e ∙ ap (with_unsent r) (sym (take_all (length (merges_of r)) (merges_of r) (omega arith))); due = λ l. due }
@@ -284,9 +251,6 @@ change_inserts r c rs n e f = f ∙ sym (needs_elements (all_of r) (next_in r.ag
 
 pub change_removes : (r : ReplicaView) (c : Change) (rs : List Patch) (n : ℕ) → is_change c ≡ true → ranges (text_of (all_of r)) c ≡ Some rs → n ≡ removed rs → n ≡ (write_needs r c).deletions
 change_removes r c rs n shaped e f = f ∙ sym (needs_deletions (all_of r) (next_in r.agent (log_of r) (frontier (all_of r)) c) (shaped_from c shaped).0 ∙ ap (λ (o : Option (List Patch)). removed (unwrap_or o [])) e)
-
-pub has_splice : (t : List ℕ) (c : Change) (rs : List Patch) → ranges t c ≡ Some rs → IsSome (spliced t c)
-has_splice t c rs e = ap (λ (o : Option (List Patch)). is_some (option_map (cut 0 t) o)) e
 
 -- the counts of a change's ranges
 pub body_counts : (t x : List ℕ) (len n : ℕ) (c : Change) → c ≡ Body x → length t ≡ len → n ≡ length x → (rs : List Patch) × (ranges t c ≡ Some rs) × (n ≡ inserted rs) × (len ≡ removed rs)

@@ -56,10 +56,6 @@ pub word_begins : (first more : ℕ → Bool) (word rest : List ℕ) → IsWord 
 word_begins first more [] rest h = absurd h
 word_begins first more (b ∷ word) rest h = h.0
 
-pub begins_true : (test : ℕ → Bool) (bytes : List ℕ) → begins test bytes ≡ true → (b : ℕ) × (rest : List ℕ) × (bytes ≡ b ∷ rest) × (test b ≡ true)
-begins_true test [] e = absurd cc
-begins_true test (b ∷ rest) e = (b, rest, refl, e)
-
 pub begins_or : (f g : ℕ → Bool) (bytes : List ℕ) → begins f bytes ≡ false → begins g bytes ≡ false → begins (λ b. f b || g b) bytes ≡ false
 begins_or f g [] x y = refl
 begins_or f g (b ∷ bytes) x y = or_from (f b) (g b) x y

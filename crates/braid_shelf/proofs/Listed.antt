@@ -44,9 +44,6 @@ pub strings_push : (members : List Member) (member : Member) → strings_in (mem
 strings_push [] member = append-nil (text_of member.item)
 strings_push (first ∷ members) member = ap (λ (x : List (List ℕ)). text_of first.item ++ x) (strings_push members member) ∙ sym (append_assoc (text_of first.item) (strings_in members) (text_of member.item))
 
-pub other_within : (value : List ℕ) (members : List Member) (left : ℕ) → IsOther value members (Some left) → left ≤ length value
-other_within value members left h = omega (arith, h.1)
-
 pub other_fault : (value : List ℕ) (members : List Member) (left : ℕ) → SpellsList members value → IsOther value members (Some left) → IsStringsFault value (length value - left) NotString
 other_fault value members left s h =
     let place : h.0 ≡ length value - left = omega (arith, h.1) in

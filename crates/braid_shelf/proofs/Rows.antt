@@ -1,6 +1,6 @@
 -- Worked values, read by the definitions.
 use Rattle.std.proofs.Common.{◌≡◌, [], ◌∷◌, Some, true, refl, codes, pos}
-use Rattle.braid_shelf.specs.declared.fault.ShelfKind.TheVariants.{BadKey, LongInteger, TrailingComma, MissingComma, Unclosed, NotCarried}
+use Rattle.braid_shelf.specs.declared.fault.ShelfKind.TheVariants.{BadKey, LongInteger, MissingComma, Unclosed, NotCarried}
 use Rattle.braid_shelf.specs.declared.item.Item.TheVariants as items
 use Rattle.braid_shelf.specs.Reading.{Read, Bad, string_from, digits_at, integer_at, boolean_from, item_at, key_at, value_at, param_at, params_at, member_at, separator_at, members_at, list_at}
 
@@ -24,17 +24,9 @@ unclosed : list_at (codes "\"a") ≡ Bad 2 Unclosed
 unfolding string_from item_at member_at members_at list_at
 unclosed = refl
 
-unescaped : list_at (codes "\"a\\") ≡ Bad 3 Unclosed
-unfolding string_from item_at member_at members_at list_at
-unescaped = refl
-
 no_key : list_at (codes "a;Q") ≡ Bad 1 BadKey
 unfolding item_at key_at value_at param_at params_at member_at members_at list_at
 no_key = refl
-
-trailing : list_at (codes "\"a\",") ≡ Bad 1 TrailingComma
-unfolding string_from item_at params_at member_at separator_at members_at list_at
-trailing = refl
 
 long : list_at (codes "9999999999999999") ≡ Bad 16 LongInteger
 unfolding digits_at integer_at item_at member_at members_at list_at

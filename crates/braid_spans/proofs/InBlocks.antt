@@ -3,17 +3,17 @@ use Rattle.std.proofs.Common.{◌≡◌, ℕ, zero, suc, ◌+◌, ◌-◌, ◌<�
 use Rattle.std.proofs.Math.ListN.{set}
 use Rattle.std.specs.List.{insert, remove}
 use Rattle.std.specs.Option.{option_map}
-use Rattle.std.proofs.lemmas.List.{length-append, length-map, length-set, length-take-le, map-append, map-set, take-map, drop-map, set-append_left, set-append_right, take-append-drop, take_at, drop_at, take_more, append-nil, get_or-set_same}
+use Rattle.std.proofs.lemmas.List.{length-append, length-map, length-set, length-take-le, map-append, map-set, take-map, drop-map, set-append_left, set-append_right, take-append-drop, take_at, drop_at, append-nil, get_or-set_same}
 use Rattle.std.proofs.lemmas.List.Concat.{flat_map-append}
 use Rattle.std.proofs.lemmas.List.Edits.{insert-append_left, insert-append_right, remove-append_left, remove-append_right, length-insert, length-remove}
 use Rattle.std.proofs.lemmas.List.Elements.{All-set, All-take, All-drop}
-use Rattle.std.proofs.lemmas.List.Sums.{sum_by-set, sum_by-append, sum_by-insert, sum_by-remove, sum_by_push, sum_by-take-le, get_or-le-sum_by}
+use Rattle.std.proofs.lemmas.List.Sums.{sum_by-set, sum_by-append, sum_by-insert, sum_by-remove, sum_by-take-le, get_or-le-sum_by}
 use Rattle.std.proofs.lemmas.Option.{slice_get_within, slice_get-get_or, slice_get-map, get_or_from_slice_get}
 use Rattle.braid_spans.specs.declared.run.Run.{Run}
 use Rattle.braid_spans.specs.declared.sum.Sum.{Sum}
 use Rattle.braid_spans.specs.Kept.{undeleted_of, undeleted_in, size_in}
 use Rattle.braid_spans.specs.Blocks.{runs_of, flat, sum_of, runs_in, undeleted_by, over_half, weight, IsFilled, before}
-use Rattle.braid_spans.proofs.Lists.{some_item, some_and, from_some_and, all_insert, parts, set_parts, two_for_one, sum_by-cons, get_first_of_two, get_second_of_two, drop_at_item, take_item}
+use Rattle.braid_spans.proofs.Lists.{some_item, from_some_and, all_insert, parts, set_parts, two_for_one, sum_by-cons, get_first_of_two, get_second_of_two, drop_at_item, take_item}
 use Rattle.braid_spans.proofs.SeenSteps.{get_left, get_right}
 
 pub flat-append : (xs ys : List (List Run)) → flat (xs ++ ys) ≡ flat xs ++ flat ys
@@ -235,33 +235,14 @@ undeleted_are (b ∷ bs) =
 pub undeleted_before : (bs : List (List Run)) (s : ℕ) → undeleted_by (take s (map sum_of bs)) ≡ undeleted_in (flat (take s bs))
 undeleted_before bs s = ap undeleted_by (take-map sum_of s bs) ∙ undeleted_are (take s bs)
 
--- a walk over sums, one more passed
-pub runs_step : (sums : List Sum) (i : ℕ) (d : Sum) → i < length sums → runs_in (take (i + 1) sums) ≡ runs_in (take i sums) + (get_or sums i d).runs
-runs_step sums i d l = ap runs_in (take_more sums i d l) ∙ sum_by_push (λ (s : Sum). s.runs) (take i sums) (get_or sums i d)
-
 pub runs_within : (sums : List Sum) (i : ℕ) → runs_in (take i sums) ≤ runs_in sums
 runs_within sums i = sum_by-take-le (λ (s : Sum). s.runs) sums i
-
-pub undeleted_step : (sums : List Sum) (i : ℕ) (d : Sum) → i < length sums → undeleted_by (take (i + 1) sums) ≡ undeleted_by (take i sums) + (get_or sums i d).undeleted
-undeleted_step sums i d l = ap undeleted_by (take_more sums i d l) ∙ sum_by_push (λ (s : Sum). s.undeleted) (take i sums) (get_or sums i d)
 
 pub take_all : {X : Type 0} (xs : List X) (n : ℕ) → length xs ≤ n → take n xs ≡ xs
 take_all [] zero l = refl
 take_all [] (suc n) l = refl
 take_all (x ∷ xs) zero l = absurd (omega (arith, l))
 take_all (x ∷ xs) (suc n) l = ap (λ t. x ∷ t) (take_all xs n (omega (arith, l)))
-
--- the spot that a walk over the sums found
-pub spot_there : (bs : List (List Run)) (sums : List Sum) (s k : ℕ) (d : Sum) → sums ≡ map sum_of bs → s < length sums → k < (get_or sums s d).runs → IsSomeAnd (slice_get bs s) (λ (b : List Run). k < length b)
-spot_there bs sums s k d e l less =
-    let n : length sums ≡ length bs = ap length e ∙ length-map' in
-    let w : s < length bs = omega (arith, l, n) in
-    let there : slice_get bs s ≡ Some (get_or bs s []) = slice_get-get_or bs s [] w in
-    let is : get_or sums s d ≡ sum_of (get_or bs s []) = get_or_from_slice_get sums s (sum_of (get_or bs s [])) d (ap (λ t. slice_get t s) e ∙ slice_get-map sum_of bs s ∙ ap (option_map sum_of) there) in
-    some_and (λ (b : List Run). k < length b) (slice_get bs s) (get_or bs s []) there (subst (λ (m : Sum). k < m.runs) is less)
-  where
-    length-map' : length (map sum_of bs) ≡ length bs
-    length-map' = length-map bs sum_of
 
 pub number_there : (bs : List (List Run)) (sums : List Sum) (s k i : ℕ) → sums ≡ map sum_of bs → runs_in (take s sums) + k ≡ i → before bs s + k ≡ i
 number_there bs sums s k i e h = ap (λ n. n + k) (sym (ap (λ t. runs_in (take s t)) e ∙ runs_before bs s)) ∙ h

@@ -7,7 +7,7 @@ use Rattle.braid_tree.specs.Rows.{place}
 use Rattle.braid_tree.specs.declared.at.At.{At}
 use Rattle.braid_spans.specs.declared.run.Run.{Run}
 use Rattle.braid_spans.specs.Kept.{size_in}
-use Rattle.braid_spans.specs.SeenRuns.{is_seen_run, seen_runs, places_from, places_in, seen_places, chars_in, seen_chars, seen_count}
+use Rattle.braid_spans.specs.SeenRuns.{is_seen_run, seen_runs, places_from, places_in, seen_places, seen_count}
 use Rattle.braid_spans.proofs.Lists.{sum_by-cons}
 
 module _ (marks : List Bool) (chains : List (List ℕ)) (r : Run) (rs : List Run) where
@@ -28,12 +28,6 @@ module _ (marks : List Bool) (chains : List (List ℕ)) (r : Run) (rs : List Run
 
   pub places_pass : is_seen_run marks chains r ≡ false → seen_places marks chains (r ∷ rs) ≡ seen_places marks chains rs
   places_pass e = ap (flat_map places_in) (runs_pass e)
-
-  pub chars_take : (chars : List ℕ) → is_seen_run marks chains r ≡ true → seen_chars marks chars chains (r ∷ rs) ≡ chars_in chars r ++ seen_chars marks chars chains rs
-  chars_take chars e = ap (flat_map (chars_in chars)) (runs_take e)
-
-  pub chars_pass : (chars : List ℕ) → is_seen_run marks chains r ≡ false → seen_chars marks chars chains (r ∷ rs) ≡ seen_chars marks chars chains rs
-  chars_pass chars e = ap (flat_map (chars_in chars)) (runs_pass e)
 
 pub count_within : (marks : List Bool) (chains : List (List ℕ)) (rs : List Run) → seen_count marks chains rs ≤ size_in rs
 count_within marks chains [] = omega arith

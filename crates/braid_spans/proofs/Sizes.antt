@@ -2,8 +2,7 @@
 use Rattle.std.proofs.Common.{◌≡◌, ℕ, ◌+◌, ◌-◌, ◌<◌, ◌≤◌, List, [], ◌∷◌, Option, Some, None, length, get_or, arith, All, take, drop, suc, ap}
 use Rattle.std.specs.List.{remove}
 use Rattle.std.proofs.lemmas.List.Elements.{All-tail, All-append, All-take, All-drop}
-use Rattle.std.proofs.Math.ListN.{set}
-use Rattle.std.proofs.lemmas.List.Sums.{sum_by-set, sum_by-remove, get_or-le-sum_by}
+use Rattle.std.proofs.lemmas.List.Sums.{sum_by-remove}
 use Rattle.braid_spans.specs.declared.run.Run.{Run}
 use Rattle.braid_spans.proofs.Lists.{sum_by-cons}
 use Rattle.braid_spans.specs.Kept.{AreCounted, size_in, undeleted_of, undeleted_in}
@@ -20,16 +19,6 @@ undeleted_below [] = omega arith
 undeleted_below (r ∷ rs) =
     let a : undeleted_in (r ∷ rs) ≡ undeleted_of r.newest r.len + undeleted_in rs = sum_by-cons (λ (x : Run). undeleted_of x.newest x.len) r rs in
     let b : size_in (r ∷ rs) ≡ r.len + size_in rs = sum_by-cons (λ (x : Run). x.len) r rs in omega (arith, a, b, undeleted_one r, undeleted_below rs)
-
--- what is counted after one run is put in another's place
-pub undeleted_set : (rs : List Run) (i : ℕ) (r d : Run) → i < length rs
-    → undeleted_in rs - undeleted_of (get_or rs i d).newest (get_or rs i d).len + undeleted_of r.newest r.len ≤ size_in (set rs i r)
-undeleted_set rs i r d l =
-    let a : undeleted_in (set rs i r) + undeleted_of (get_or rs i d).newest (get_or rs i d).len ≡ undeleted_in rs + undeleted_of r.newest r.len
-    = sum_by-set (λ (x : Run). undeleted_of x.newest x.len) rs i r d l in
-    let b = undeleted_below (set rs i r) in
-    let c : undeleted_of (get_or rs i d).newest (get_or rs i d).len ≤ undeleted_in rs = get_or-le-sum_by (λ (x : Run). undeleted_of x.newest x.len) rs i d l in
-    omega (arith, a, b, c)
 
 -- runs that are not empty are no more than their elements
 pub count_below : (rs : List Run) → All (λ (r : Run). 0 < r.len) rs → length rs ≤ size_in rs

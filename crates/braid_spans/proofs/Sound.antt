@@ -1,6 +1,5 @@
 -- What runs that fit tell of each of them, and what a sound document tells of its answers.
-use Rattle.std.proofs.Common.{◌≡◌, ℕ, zero, suc, ◌+◌, ◌<◌, ◌≤◌, ◌^◌, List, [], ◌∷◌, ◌++◌, Option, Some, None, MatchOption, All, length, take, drop, map, slice_get, refl, sym, ap, subst, ◌∙◌, arith, inl, inr, Bool, Result, Ok, Err, IfOk, IfErr, false, ◌==◌}
-use Rattle.std.specs.Result.{result_ok}
+use Rattle.std.proofs.Common.{◌≡◌, ℕ, zero, suc, ◌+◌, ◌<◌, ◌≤◌, ◌^◌, List, [], ◌∷◌, ◌++◌, Option, Some, None, MatchOption, All, length, take, drop, map, slice_get, refl, sym, ap, subst, ◌∙◌, arith, inl, inr, Bool, false, ◌==◌}
 use Rattle.std.specs.List.{flat_map}
 use Rattle.std.specs.Option.{option_map}
 use Rattle.std.proofs.lemmas.List.{length-append, length-map, length-take-le, length-drop}
@@ -16,8 +15,8 @@ use Rattle.braid_spans.specs.declared.run.Run.{Run}
 use Rattle.braid_spans.specs.declared.link.Link.{Link}
 use Rattle.braid_spans.specs.declared.version.SpanVersion.{SpanVersion}
 use Rattle.braid_spans.specs.Spans.{spelled_span, spelled, rows_of, deletions_of}
-use Rattle.braid_spans.specs.Kept.{span_of, spans_of, stamps_in, stamp_of, chains_of, reach, size_in, undeleted_in, IsFitting, AreFitting, IsSmall, IsHeld, IsHeldAt, IsSound, IsPut, MarksOne, MarksEach, SpellsAlike, AreLinked}
-use Rattle.braid_spans.specs.SeenRuns.{places_in, seen_runs, seen_count, seen_places, seen_chars}
+use Rattle.braid_spans.specs.Kept.{span_of, spans_of, stamps_in, stamp_of, chains_of, reach, size_in, undeleted_in, IsFitting, AreFitting, IsHeld, IsHeldAt, IsSound, IsPut, MarksOne, MarksEach, SpellsAlike, AreLinked}
+use Rattle.braid_spans.specs.SeenRuns.{places_in, seen_count, seen_places, seen_chars}
 use Rattle.braid_spans.proofs.Lists.{sum_by-cons}
 use Rattle.braid_spans.proofs.SeenSteps.{places_length}
 use Rattle.braid_spans.proofs.Chains.{chains_count}
@@ -40,9 +39,6 @@ module _ (versions : ℕ) (chars : List ℕ) (chains : List (List ℕ)) (rs : Li
 
   pub all_known : All (λ (r : Run). r.first.version < versions) rs
   all_known = All-weaker (IsFitting versions (length chars) (length chains)) (λ (r : Run). r.first.version < versions) (λ r f. f.known) rs fit
-
-  pub all_small : length chars < 2 ^ 32 → All IsSmall rs
-  all_small few = All-weaker (IsFitting versions (length chars) (length chains)) IsSmall (λ r f. record { some = f.some; ordinals = f.ordinals; starts = omega (arith, f.within, few) }) rs fit
 
   pub size_is : size_in rs ≡ length (rows_of (spelled (spans_of chars chains rs)))
   size_is = sym (spelled_count versions chars chains rs fit)
@@ -171,12 +167,6 @@ places_count (r ∷ xs) =
     let b = places_length r.first.version r.first.ordinal r.len in
     let c : size_in (r ∷ xs) ≡ r.len + size_in xs = sum_by-cons (λ (x : Run). x.len) r xs in
     omega (arith, a, b, c, places_count xs)
-
--- what a search for a place answers
-pub nth_is : (marks : List Bool) (chains : List (List ℕ)) (rs : List Run) (n : ℕ) (r : Result At ℕ) → IfOk r (λ (at : At). slice_get (seen_places marks chains rs) n ≡ Some at) → IfErr r (λ (left : ℕ). seen_count marks chains rs + left ≡ n)
-    → result_ok r ≡ slice_get (seen_places marks chains rs) n
-nth_is marks chains rs n (Ok at) ok err = sym ok
-nth_is marks chains rs n (Err left) ok err = sym (past_end (seen_places marks chains rs) n (let c = places_count (seen_runs marks chains rs) in omega (arith, c, err)))
 
 -- an item's place is an item of the places
 pub place_at : (rows : List Row) (n : ℕ) → option_map place_in (slice_get rows n) ≡ slice_get (map place_in rows) n

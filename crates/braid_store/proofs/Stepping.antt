@@ -67,10 +67,6 @@ next_none H c legal fit m = (skip_to H c legal fit c.passed (length H) fit.withi
     drop_all [] = refl
     drop_all (x ∷ I) = drop_all I
 
--- a cursor that passed on still fits
-pub fits_on : (H : List UpdateView) (c : CursorView) (n : ℕ) → FitsHistory H c → n ≤ length H → FitsHistory H (record c { passed = n })
-fits_on H c n fit l = record { held = fit.held; marked = fit.marked; within = l }
-
 -- a number that is marked is below the size
 marked_within : (flags : List Bool) (n : ℕ) → IsMarked flags n → n < length flags
 marked_within [] n m = absurd (true≢false (sym m))

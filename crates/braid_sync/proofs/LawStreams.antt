@@ -4,7 +4,7 @@ use Rattle.braid_change.specs.Updates.{UpdateView}
 use Rattle.braid_fields.specs.declared.reason.Reason.{Reason}
 use Rattle.braid_grammar.specs.Outcomes.{Outcome, Part, Bad, Whole}
 use Rattle.braid_grammar.specs.Readings.{next_at}
-use Rattle.braid_grammar.specs.Streams.{no_line, IsStream, Completes}
+use Rattle.braid_grammar.specs.Streams.{IsStream, Completes}
 use Rattle.braid_grammar.proofs.Stable.{Extends}
 use Rattle.braid_grammar.proofs.Readers.{next_stable}
 use Rattle.braid_grammar.proofs.Law.{IsEnd, Runs, runs_same, front_runs, fault_runs}
@@ -110,20 +110,3 @@ record Cut (us vs : List UpdateView) (front : List ℕ) : Type 0 where
   behind : List ℕ
   first : IsStream us before
   whole : front ≡ before ++ behind
-
-cut_stream : (us vs : List UpdateView) (front : List ℕ) → IsStream (us ++ vs) front → Cut us vs front
-cut_stream [] vs front s = record { before = []; behind = front; first = no_line; whole = refl }
-cut_stream (u ∷ us) vs front s =
-    let c = cut_stream us vs s.rest s.is_rest in
-    record {
-      before = s.gap ++ (s.first ++ c.before);
-      behind = c.behind;
-      first = record { gap = s.gap; first = s.first; rest = c.before; is_gap = s.is_gap; is_first = s.is_first; is_rest = c.first; spelled = refl };
-      whole = s.spelled ∙ ap (λ t. s.gap ++ (s.first ++ t)) c.whole ∙ ap (λ t. s.gap ++ t) (sym (append_assoc s.first c.before c.behind)) ∙ sym (append_assoc s.gap (s.first ++ c.before) c.behind);
-    }
-
--- what bytes begin with more of, they begin with
-pub begins_fewer : (us vs : List UpdateView) (b : List ℕ) → BeginWith (us ++ vs) b → BeginWith us b
-begins_fewer us vs b k =
-    let c = cut_stream us vs k.front k.stream in
-    record { front = c.before; rest = c.behind ++ k.rest; stream = c.first; spelled = k.spelled ∙ ap (λ t. t ++ k.rest) c.whole ∙ append_assoc c.before c.behind k.rest }

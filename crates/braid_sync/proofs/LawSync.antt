@@ -29,10 +29,6 @@ none_alike : (f : Failing) (saids : List Said) → AllAlike f saids [] → saids
 none_alike f [] a = refl
 none_alike f (said ∷ saids) a = absurd a
 
-none_alike_back : (f : Failing) (others : List Said) → AllAlike f [] others → others ≡ []
-none_alike_back f [] a = refl
-none_alike_back f (other ∷ others) a = absurd a
-
 one_more : (s t : Said) (ss ts : List Said) → s ≡ t → ss ≡ ts → s ∷ ss ≡ t ∷ ts
 one_more s t ss ts e f = λ i. e i ∷ f i
 

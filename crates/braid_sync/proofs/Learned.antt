@@ -1,5 +1,5 @@
 -- Updates that are learnt one after the other, and one more.
-use Rattle.std.proofs.Common.{◌≡◌, ◌≢◌, ℕ, List, [], ◌∷◌, ◌++◌, Some, None, Ok, Err, refl, ap, sym, subst, ◌∙◌, append_assoc, append-nil, inl}
+use Rattle.std.proofs.Common.{◌≡◌, ◌≢◌, ℕ, List, [], ◌∷◌, ◌++◌, Some, None, Err, refl, ap, sym, subst, ◌∙◌, append_assoc, append-nil, inl}
 use Rattle.braid_change.specs.Updates.{UpdateView}
 use Rattle.braid_text.specs.declared.accept.Accept.TheVariants as accepts
 use Rattle.braid_outbox.specs.declared.learn.Learn.{Learn}
@@ -9,10 +9,9 @@ use Rattle.braid_outbox.specs.Replicas.{ReplicaView}
 use Rattle.braid_outbox.specs.Learns.{Learnt, Confirmed, Judged, learn_answer, told}
 use Rattle.braid_outbox.specs.Learns as outbox
 use Rattle.braid_sync.specs.declared.end.SyncEnd.{SyncEnd}
-use Rattle.braid_sync.specs.declared.learn.Taken.{Taken}
 use Rattle.braid_sync.specs.Learning.{refusal_end, answer_to, learnt, Learns, Refuses, HasVersion, Awaits}
-use Rattle.braid_sync.specs.Follows.{answer_word, line_of, lines_of}
-use Rattle.braid_sync.specs.Steps.{Takes, taken_word}
+use Rattle.braid_sync.specs.Follows.{line_of, lines_of}
+use Rattle.braid_sync.specs.Steps.{Takes}
 
 pub one_more_learnt : (r : ReplicaView) (us : List UpdateView) (q : ReplicaView) (u : UpdateView) → Learns r us q → refusal_end (answer_to q u) ≡ None → Learns r (us ++ u ∷ []) (learnt q u)
 one_more_learnt r [] q u h k = (subst (λ (x : ReplicaView). refusal_end (answer_to x u) ≡ None) h k, ap (λ (x : ReplicaView). learnt x u) h)
@@ -38,11 +37,6 @@ kept_by r u (Judged (accepts.Full which need room)) end e = refl
 kept_by r u (Judged accepts.Memory) end e = refl
 
 -- an answer of a replica, as what was made of the update
-
-pub taken_as : (taken : Taken) (a : Learn) (r : ReplicaView) (u : UpdateView) (q : ReplicaView) → refusal_end a ≡ None → taken_word taken ≡ answer_word a → a ≢ learns.Memory → (a ≢ learns.Memory → a ≡ answer_to r u) → (a ≢ learns.Memory → q ≡ learnt r u) → Takes (Ok taken) r u q
-taken_as taken a r u q n w m e k =
-    let same = e m in
-    (subst (λ (x : Learn). refusal_end x ≡ None) same n, subst (λ (x : Learn). taken_word taken ≡ answer_word x) same w, k m)
 
 pub refused_as : (end : SyncEnd) (a : Learn) (r : ReplicaView) (u : UpdateView) (q : ReplicaView) → refusal_end a ≡ Some end → a ≢ learns.Memory → (a ≢ learns.Memory → a ≡ answer_to r u) → (a ≢ learns.Memory → q ≡ learnt r u) → Takes (Err end) r u q
 refused_as end a r u q s m e k =

@@ -1,8 +1,6 @@
 -- How a subscription is begun on a link, step by step.
-use Rattle.std.proofs.Common.{◌≡◌, ℕ, Bool, true, false, cond, List, [], ◌++◌, Option, None, Result, Ok, Err, refl, ap, sym, subst, append-nil, inl, inr}
+use Rattle.std.proofs.Common.{◌≡◌, ℕ, Bool, true, false, cond, List, [], ◌++◌, Result, Ok, Err, refl, ap, sym, subst, append-nil, inl, inr}
 use Rattle.braid_io.specs.Outside.{Intake, Outflow, WritesAll, WritesPart}
-use Rattle.std.specs.Prelude.{IfNone}
-use Rattle.braid_http.specs.declared.stop.Stop.{Stop}
 use Rattle.braid_http.specs.declared.response.ReplyHead.{ReplyHead}
 use Rattle.braid_http.specs.declared.response.Replied.{Replied}
 use Rattle.braid_http.specs.declared.response.Replied.TheVariants as replieds
@@ -53,10 +51,6 @@ head_read replieds.ReadFault held kept i j o p h e =
     let still : IsReplyOpen (held ++ h.0.got) = subst IsReplyOpen h.0.all_is h.1 in
     (h.0.got, gives_and_fails h.0.got i j o p h.0.taken h.0.left h.0.never_falls h.0.rose e, inl (λ server sent. still))
 head_read replieds.Memory held kept i j o p h e = (h.got, gives h.got i j o p h.moves e, inr refl)
-
--- what holds of a wire that goes on
-pub replied_in : (over : Option Stop) (P : Type 0) → over ≡ None → IfNone over P → P
-replied_in over P e h = subst (λ (x : Option Stop). IfNone x P) e h
 
 -- the judgement of a head
 

@@ -89,9 +89,6 @@ AllHeld vs F = (i : List ℕ) → Member i F → has_version i vs ≡ true
 pub holds_all : (us : List UpdateView) (F : List (List ℕ)) → HoldsAll (graph_of us) F → AllHeld (versions_in us) F
 holds_all us F held i m = holds_version us i (held i (member_contains F i m))
 
-pub all_holds : (us : List UpdateView) (F : List (List ℕ)) → AllHeld (versions_in us) F → HoldsAll (graph_of us) F
-all_holds us F held i c = version_holds us i (held i (contains_member F i c))
-
 pub parents_in : (us : List UpdateView) (u : UpdateView) → Follows us u → AllHeld (versions_in us) u.parents
 parents_in us u follows = holds_all us u.parents follows.parents_held
 

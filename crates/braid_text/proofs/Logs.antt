@@ -54,10 +54,6 @@ pub false_from : (b : Bool) → ((b ≡ true) → ⊥) → b ≡ false
 false_from true h = absurd (h refl)
 false_from false h = refl
 
--- the identifier is held, or no update has it
-pub has_or : (us : List UpdateView) (v : List ℕ) → Has us v ⊎ (has_version v (versions_in us) ≡ false)
-has_or us v = elim (true_or (has_version v (versions_in us))) [ inl t ↦ inl (held us v t) | inr f ↦ inr f ]
-
 pub not_has : (us : List UpdateView) (v : List ℕ) → has_version v (versions_in us) ≡ false → Has us v → ⊥
 not_has us v f h = let t = has us v h in cc
 
@@ -96,11 +92,6 @@ follows_there hs ks u lh lk f compatible there new = record {
 
 pub compatible_parts : (us ks hs : List UpdateView) → IsLegalLog hs → IsPartOf us hs → IsPartOf ks hs → Compatible us ks
 compatible_parts us ks hs legal pu pk u w m n e = one_update hs legal u w (pu u m) (pk w n) e
-
-pub in_front : (xs ys : List UpdateView) → IsPartOf xs (xs ++ ys)
-in_front (x ∷ xs) ys u (inl e) = inl e
-in_front (x ∷ xs) ys u (inr m) = inr (in_front xs ys u m)
-in_front [] ys u m = absurd m
 
 pub in_back : (xs ys : List UpdateView) → IsPartOf ys (xs ++ ys)
 in_back [] ys u m = m

@@ -29,7 +29,7 @@ use Rattle.braid_text.proofs.Documents.{document_length}
 use Rattle.braid_rebase.proofs.Members.{contains_member, from_log, in_log, member_contains}
 use Rattle.braid_rebase.specs.Additions.{chars_of, seen_after, ranges_at}
 use Rattle.braid_text.proofs.Whole.{ancestry_member, not_true}
-use Rattle.braid_text.proofs.Ties.{ancestor_version, frontier_whole, greatest_levels, held_at, holds_log, key_levels, log_holds, version_ancestor, levels, log_graph}
+use Rattle.braid_text.proofs.Ties.{ancestor_version, frontier_whole, greatest_levels, held_at, holds_log, log_holds, version_ancestor, levels, log_graph}
 use Rattle.braid_text.specs.Versions.{Version, ancestors_in, has_version, versions_in, document_in, deletions_by, deletions_in, elements_by, elements_in}
 use Rattle.braid_tree.specs.Trees.{Member}
 use Rattle.braid_text.specs.Answers.{HasRoom, IsAnswer, answer_to, needs_of, room_of}
@@ -111,9 +111,6 @@ document_counted H = document_length (versions_at H)
 
 pub levels_at : (H : List UpdateView) → IsLegal H → (v : Version) → Contains (versions_at H) v → v.level ≡ level_of (graph_of H) v.id
 levels_at H legal v c = levels H legal v (contains_member (versions_at H) v c)
-
-pub key_levels_at : (H : List UpdateView) → IsLegal H → (x : Node Key) → Contains (document_of H) x → x.key.level ≡ level_of (graph_of H) x.key.id
-key_levels_at H legal x c = key_levels H legal x (contains_member (document_of H) x c)
 
 pub ancestors_exact : (H : List UpdateView) → IsLegal H → (F : List (List ℕ)) → HoldsAll (graph_of H) F → (v : List ℕ) → (has_version v (ancestors_at H F) ≡ true) ↔ IsAncestor (graph_of H) F v
 ancestors_exact H legal F held v = (version_ancestor H legal F held v, ancestor_version H legal F held v)

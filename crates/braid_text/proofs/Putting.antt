@@ -117,9 +117,6 @@ total_more runs i r l is = ap total_len (take_more runs i r l) ∙ sum_by-append
 pub total_left : (runs : List Run) (i : ℕ) (r : Run) → i < length runs → r ≡ get_or runs i r → total_len (take i runs) + text_len r ≤ total_len runs
 total_left runs i r l is = omega (arith, total_more runs i r l is, sum_by-take-drop text_len runs (i + 1))
 
-pub total_all : (runs : List Run) (i : ℕ) → total_len (take i runs) ≤ total_len runs
-total_all runs i = omega (arith, sum_by-take-drop text_len runs i)
-
 -- the runs that are left begin with the one at hand
 pub runs_left : (runs : List Run) (i : ℕ) (r : Run) → i < length runs → r ≡ get_or runs i r → drop i runs ≡ r ∷ drop (i + 1) runs
 runs_left runs i r l is = drop_more runs i r l ∙ ap (λ (q : Run). q ∷ drop (i + 1) runs) (sym is)

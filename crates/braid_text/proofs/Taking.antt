@@ -228,7 +228,3 @@ number_within H es same n v at = go (held_number H v n (ap (λ (t : List GraphEn
   where
     go : (w : UpdateView) × (slice_get H n ≡ Some w) × (w.id ≡ v) → n < length H
     go (w, e, f) = slice_get_within H n w e
-
--- an update that may follow is not one of the history
-pub takable_new : (H : List UpdateView) (ds : List RowDeletion) (rows : List Row) (u : UpdateView) (resolved : Resolved) → IsTakable H ds rows u resolved → Contains H u → ⊥
-takable_new H ds rows u resolved t c = ((may_follow H u).0 t.follows).0 (contains_holds H u c)

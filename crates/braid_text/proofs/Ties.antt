@@ -16,16 +16,14 @@ use Rattle.braid_graph.proofs.Levels.{greatest_up_to}
 use Rattle.braid_graph.proofs.Frontiers.{held_same, frontier_is}
 use Rattle.braid_graph.proofs.Flags.{head_no_parent}
 use Rattle.braid_graph.proofs.Orders.{walk_members}
-use Rattle.braid_tree.specs.Keys.{Key}
-use Rattle.braid_tree.specs.Nodes.{Node}
 use Rattle.braid_tree.specs.Trees.{Member}
 use Rattle.braid_tree.proofs.Keys.{ids_strict, eq_true, eq_itself}
 use Rattle.braid_tree.proofs.Member.{member_append_left, member_append_right}
 use Rattle.braid_text.specs.Versions.{Version, has_version, ancestors_in, greatest_level, version_in, versions_in}
-use Rattle.braid_text.specs.Histories.{entry_of, graph_of, IsLegalLog, IsLegal, versions_at, ancestors_at, document_of}
+use Rattle.braid_text.specs.Histories.{entry_of, graph_of, IsLegalLog, IsLegal, versions_at, ancestors_at}
 use Rattle.braid_rebase.proofs.Members.{contains_member, member_contains, member_map, member_from_map}
 use Rattle.braid_text.proofs.Held.{id_member, member_id, version_member, member_version, new_in, parents_in, holds_all, AllHeld}
-use Rattle.braid_text.proofs.Whole.{IsWhole, whole_legal, greatest_at, greatest_least}
+use Rattle.braid_text.proofs.Whole.{greatest_at, greatest_least}
 
 abbrev pub id_of : Version → List ℕ
 id_of v = v.id
@@ -135,15 +133,6 @@ levels H legal w m = levels_log (reverse H) legal w m ∙ ap (λ (es : List Grap
 
 pub greatest_levels : (H : List UpdateView) → IsLegal H → (F : List (List ℕ)) → HoldsAll (graph_of H) F → greatest_level (versions_at H) F ≡ greatest_by (level_of (graph_of H)) F
 greatest_levels H legal F held = greatest_same (versions_at H) (level_of (graph_of H)) (levels H legal) F (held_at H F held)
-
-pub key_levels : (H : List UpdateView) → IsLegal H → (z : Node Key) → Member z (document_of H) → z.key.level ≡ level_of (graph_of H) z.key.id
-key_levels H legal z m = go (whole.placed z m)
-  where
-    whole : IsWhole (versions_at H)
-    whole = whole_legal (reverse H) legal
-
-    go : (v : Version) × Member v (versions_at H) × Member z v.nodes → z.key.level ≡ level_of (graph_of H) z.key.id
-    go (v, n, k) = let o = whole.own v n z k in o.1 ∙ levels H legal v n ∙ ap (level_of (graph_of H)) (sym o.0)
 
 -- some update of the list has this identifier among its parents
 abbrev pub IsParentIn : List UpdateView → List ℕ → Type 0

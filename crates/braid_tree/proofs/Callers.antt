@@ -3,36 +3,22 @@ use Rattle.std.proofs.Common.{sym, ◌≡◌, ℕ, zero, suc, ◌+◌, ◌-◌, 
 use Rattle.std.specs.Option.{option_map}
 use Rattle.std.specs.List.{AllByRecursion}
 use Rattle.std.proofs.lemmas.List.{length-append}
-use Rattle.std.proofs.lemmas.List.Elements.{All-weaker, All-head, All-tail}
+use Rattle.std.proofs.lemmas.List.Elements.{All-head, All-tail}
 use Rattle.braid_tree.specs.declared.at.At.{At}
 use Rattle.braid_tree.specs.Keys.{Key, key_cmp, key_in}
 use Rattle.braid_tree.specs.Nodes.{Node, with_node, with_nodes, run}
-use Rattle.braid_tree.specs.Trees.{Member, AreDistinct, IsWithout, HasPath, IsTree, AreRisingKeys, AreNewKeys}
-use Rattle.braid_tree.specs.Elements.{Element, element_of}
+use Rattle.braid_tree.specs.Trees.{Member, HasPath, IsTree, AreRisingKeys, AreNewKeys}
+use Rattle.braid_tree.specs.Elements.{Element}
 use Rattle.braid_tree.specs.Rows.{Stamp, Row, RowDeletion, HasPlace, AreNewOrdinals, AreKnown, IsKnownRow, IsOrigin, Inserts, key_by, key_at, element_at, next_key, place}
-use Rattle.braid_tree.specs.Inside.{IsPlaceOf, HaveOwnPlaces}
 use Rattle.braid_tree.specs.Seen.{is_seen_by, seen_rows, place_in}
 use Rattle.braid_tree.proofs.Keys.{keys_strict}
 use Rattle.braid_tree.proofs.Kept.{tree_with_run, new_with, rising_next}
-use Rattle.braid_tree.proofs.Bridge.{next_keys_rise, row_node, head_key}
-use Rattle.braid_tree.proofs.Member.{all_member}
-use Rattle.braid_tree.proofs.Places.{place_number}
+use Rattle.braid_tree.proofs.Bridge.{next_keys_rise}
 use Rattle.std.proofs.lemmas.Option.{slice_get_cases}
 use Rattle.braid_tree.proofs.Links.{get_append, get_end}
 use Rattle.braid_tree.proofs.KeptRows.{known_place}
 use Rattle.braid_tree.proofs.SeenRows.{seen_words}
 use Rattle.braid_ids.specs.MarkSets.{IsMarked}
-
--- after a version is begun, what was known stays so
-pub known_begin : (vs : List Stamp) (v : Stamp) (rows : List Row) → AreKnown vs rows → AreKnown (vs ++ v ∷ []) rows
-known_begin vs v rows known = All-weaker (IsKnownRow vs) (IsKnownRow (vs ++ v ∷ [])) (λ r k. record { place_known = wider r.at.version k.place_known; origin_known = origin r.origin k.origin_known }) rows known
-  where
-    wider : (n : ℕ) → n < length vs → n < length (vs ++ v ∷ [])
-    wider n l = omega (arith, l, length-append vs (v ∷ []))
-
-    origin : (o : Option At) → MatchOption o (Unit {0}) (λ (at : At). at.version < length vs) → MatchOption o (Unit {0}) (λ (at : At). at.version < length (vs ++ v ∷ []))
-    origin None h = tt
-    origin (Some at) h = wider at.version h
 
 -- no row is the new version's
 pub next_begin : (vs : List Stamp) (v : Stamp) (rows : List Row) → AreKnown vs rows → AreNewOrdinals rows (length (vs ++ v ∷ []) - 1) 0
@@ -89,22 +75,6 @@ run_leaves vs rows es after above n cs ins = (
     origin None e = inl e
     origin (Some at) (z, m, e, p) = inr (z, m, p)
 
--- rows that a test keeps list the nodes that a like test keeps
-pub filter_listed : {A B C : Type 0} (f : A → C) (g : B → C) (p : A → Bool) (q : B → Bool) → ((a : A) (b : B) → f a ≡ g b → p a ≡ q b) → (xs : List A) (ys : List B) → map f xs ≡ map g ys → map f (filter p xs) ≡ map g (filter q ys)
-filter_listed f g p q agree [] [] same = refl
-filter_listed f g p q agree [] (y ∷ ys) same = cc
-filter_listed f g p q agree (x ∷ xs) [] same = cc
-filter_listed {C = C} f g p q agree (x ∷ xs) (y ∷ ys) same = go (p x) (q y) (agree x y head) (filter_listed f g p q agree xs ys cc)
-  where
-    head : f x ≡ g y
-    head = cc
-
-    go : (b c : Bool) → b ≡ c → map f (filter p xs) ≡ map g (filter q ys) → map f (cond b (x ∷ filter p xs) (filter p xs)) ≡ map g (cond c (y ∷ filter q ys) (filter q ys))
-    go true true e ih = cc
-    go false false e ih = ih
-    go true false e ih = cc
-    go false true e ih = cc
-
 place_kept : (p : Row → Bool) (rows : List Row) (at : At) → HasPlace (filter p rows) at → HasPlace rows at
 place_kept p [] at h = h
 place_kept p (r ∷ rows) at h = go (λ m. place_kept p rows at m) (p r) h
@@ -113,27 +83,6 @@ place_kept p (r ∷ rows) at h = go (λ m. place_kept p rows at m) (p r) h
     go ih true (inl e) = inl e
     go ih true (inr m) = inr (ih m)
     go ih false m = inr (ih m)
-
--- rows that a test keeps have places of their own, as all have
-pub own_filter : (p : Row → Bool) (rows : List Row) → HaveOwnPlaces rows → HaveOwnPlaces (filter p rows)
-own_filter p [] own = tt
-own_filter p (r ∷ rows) own = go (p r) (own_filter p rows own.1)
-  where
-    go : (b : Bool) → HaveOwnPlaces (filter p rows) → HaveOwnPlaces (cond b (r ∷ filter p rows) (filter p rows))
-    go true ih = (λ h. own.0 (place_kept p rows r.at h), ih)
-    go false ih = ih
-
--- rows that list nodes with different keys have places of their own
-pub own_listed : (vs : List Stamp) (rows : List Row) (es : List (Node Key)) → map (element_at vs) rows ≡ map element_of es → AreDistinct es → HaveOwnPlaces rows
-own_listed vs [] es same distinct = tt
-own_listed vs (r ∷ rows) [] same distinct = cc
-own_listed vs (r ∷ rows) (e ∷ es) same distinct = (λ h. clash (place_number rows r.at h), own_listed vs rows es (cc) distinct.1)
-  where
-    clash : (k : ℕ) × (k < length rows) × IsPlaceOf rows r.at k → ⊥
-    clash (k, l, here) = named (row_node vs r.at k rows es (cc) here)
-      where
-        named : (y : Node Key) × Member y es × (y.key ≡ key_at vs r.at) → ⊥
-        named (y, m, f) = all_member (λ (z : Node Key). (z.key ≡ e.key) → ⊥) y es distinct.0 m (f ∙ head_key vs r rows e es same)
 
 place_got : (rows : List Row) (n : ℕ) (at : At) → option_map place_in (slice_get rows n) ≡ Some at → HasPlace rows at
 place_got [] zero at h = cc
@@ -168,13 +117,6 @@ visible_undeleted marks deletions rows n o at by value is marked c = go (row_got
   where
     go : (r : Row) × (is_seen_by marks deletions r ≡ true) × (r.at ≡ at) → ⊥
     go (r, seen, e) = ((seen_words marks deletions r).0 seen).1 (record { at = at; by = by }, c, sym e, marked)
-
--- where a run's keys are new to the tree that the rows list, its ordinals are new to the rows
-pub next_from_new : (vs : List Stamp) (rows : List Row) (es : List (Node Key)) (n : ℕ) → map (element_at vs) rows ≡ map element_of es → AreNewKeys (next_key vs) n es → AreNewOrdinals rows (length vs - 1) n
-next_from_new vs rows es n listed new m le h =
-    let p = place_number rows (place (length vs - 1) m) h in
-    let y = row_node vs (place (length vs - 1) m) p.0 rows es listed p.2 in
-    (all_member (IsWithout (next_key vs m)) y.0 es (new m le) y.1).1 y.2
 
 -- where no two versions have one identifier, a key names one place
 pub one_place : (vs : List Stamp) → ((j k : ℕ) (x y : Stamp) → slice_get vs j ≡ Some x → slice_get vs k ≡ Some y → x.id ≡ y.id → j ≡ k) → (a b : At) → a.version < length vs → b.version < length vs → key_at vs a ≡ key_at vs b → a ≡ b

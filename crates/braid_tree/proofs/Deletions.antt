@@ -1,13 +1,11 @@
 -- What one more deletion does to a list of them, wherever it is put.
-use Rattle.std.proofs.Common.{◌≡◌, ◌↔◌, ◌⊎◌, ◌+◌, ℕ, List, [], ◌∷◌, ◌++◌, Contains, length, map, refl, sym, ap, subst, ◌∙◌, inl, inr, arith, suc, zero}
+use Rattle.std.proofs.Common.{◌≡◌, ◌↔◌, ◌⊎◌, ◌+◌, ℕ, List, [], ◌∷◌, ◌++◌, Contains, length, refl, sym, ap, subst, ◌∙◌, inl, inr, arith, suc, zero}
 use Rattle.std.proofs.lemmas.List.{append-nil, length-append}
 use Rattle.std.specs.List.Sorted.{IsPermutation}
-use Rattle.std.proofs.lemmas.List.Sorted.{IsPermutation-trans, IsPermutation-sym, IsPermutation-to_front, IsPermutation-middle, IsPermutation-append_left, Contains-permutation}
+use Rattle.std.proofs.lemmas.List.Sorted.{IsPermutation-trans, IsPermutation-sym, IsPermutation-to_front, IsPermutation-middle, IsPermutation-append_left}
 use Rattle.std.proofs.lemmas.List.Elements.{Contains-append_left, Contains-append_right, Contains-append_cases}
 use Rattle.braid_tree.specs.declared.at.At.{At}
 use Rattle.braid_tree.specs.Rows.{RowDeletion, PutsOne}
-use Rattle.braid_tree.specs.Trees.{Member}
-use Rattle.braid_tree.proofs.Member.{contains_member, member_contains}
 
 -- at the end is somewhere
 pub puts_at_end : {A : Type 0} (old : List A) (x : A) → PutsOne old x (old ++ x ∷ [])
@@ -55,10 +53,6 @@ puts_length old new x (front, back, e, f) =
     let a : length new ≡ length front + length (x ∷ back) = ap length f ∙ length-append front (x ∷ back) in
     let b : length old ≡ length front + length back = ap length e ∙ length-append front back in omega (arith, a, b)
 
--- what is neither there nor put is not there then
-pub puts_no_other : {A : Type 0} (old new : List A) (x y : A) → PutsOne old x new → (Contains old y → ⊥) → ((y ≡ x) → ⊥) → Contains new y → ⊥
-puts_no_other old new x y put none other c = elim ((puts_members old new x put y).0 c) [ inl a ↦ none a | inr b ↦ other b ]
-
 -- the new list is the old one with x behind it, in some order
 pub puts_permuted : {A : Type 0} (old new : List A) (x : A) → PutsOne old x new → IsPermutation (old ++ x ∷ []) new
 puts_permuted old new x (front, back, e, f) =
@@ -73,23 +67,3 @@ permuted_more done old new x same put =
 -- the deletion of the element at a place by a version
 abbrev pub deletion_at : ℕ → At → RowDeletion
 deletion_at by p = record { at = p; by = by }
-
-place_deleted : (by : ℕ) (done : List At) (at : At) → Contains (map (deletion_at by) done) (deletion_at by at) → Contains done at
-place_deleted by done at c = member_contains done at (go done (contains_member (map (deletion_at by) done) (deletion_at by at) c))
-  where
-    same : (p : At) → deletion_at by p ≡ deletion_at by at → p ≡ at
-    same p e = ap (λ (d : RowDeletion). d.at) e
-
-    go : (done : List At) → Member (deletion_at by at) (map (deletion_at by) done) → Member at done
-    go [] m = absurd m
-    go (p ∷ done) (inl e) = inl (same p e)
-    go (p ∷ done) (inr m) = inr (go done m)
-
--- A version that has deleted no more than these elements, whatever was deleted before it, has not deleted another one.
-pub once_among : (before now : List RowDeletion) (by : ℕ) (done : List At) (at : At) → IsPermutation (before ++ map (deletion_at by) done) now → ((d : RowDeletion) → Contains before d → d.by ≡ by → ⊥)
-    → (Contains done at → ⊥) → Contains now (deletion_at by at) → ⊥
-once_among before now by done at same none other c =
-    elim (Contains-append_cases before (map (deletion_at by) done) (deletion_at by at) (Contains-permutation now (before ++ map (deletion_at by) done) (deletion_at by at) (IsPermutation-sym (before ++ map (deletion_at by) done) now same) c)) [
-      | inl a ↦ none (deletion_at by at) a refl
-      | inr b ↦ other (place_deleted by done at b)
-    ]

@@ -21,18 +21,6 @@ use Rattle.braid_outbox.specs.Worlds.{replica_of, kept_of, with_side, at_side, w
 use Rattle.braid_world.specs.Events.{replicas_of, changed, MergesAt, first_unsent, opened_from}
 use Rattle.braid_world.specs.ReplicaCalls.{learnt_at, read_at, carried, returned, acknowledged}
 
--- the changed replica is set at its place
-pub changed_set : (k : ℕ) (f : ReplicaView → ReplicaView) (rs : List ReplicaView) (r : ReplicaView) → slice_get rs k ≡ Some r → changed k f rs ≡ set rs k (f r)
-changed_set k f [] r h = cc
-changed_set zero f (x ∷ rs) r h = let e : x ≡ r = cc in ap (λ (t : ReplicaView). f t ∷ rs) e
-changed_set (suc k) f (x ∷ rs) r h = ap (λ t. x ∷ t) (changed_set k f rs r h)
-
--- where none is there, nothing is changed
-pub changed_past : (k : ℕ) (f : ReplicaView → ReplicaView) (rs : List ReplicaView) → slice_get rs k ≡ None → changed k f rs ≡ rs
-changed_past k f [] h = refl
-changed_past zero f (x ∷ rs) h = cc
-changed_past (suc k) f (x ∷ rs) h = ap (λ t. x ∷ t) (changed_past k f rs h)
-
 -- the same where the replica was read at its place, and where the place is past the end
 pub changed_read : (k : ℕ) (f : ReplicaView → ReplicaView) (rs : List ReplicaView) (r : ReplicaView) → k < length rs → r ≡ get_or rs k r → changed k f rs ≡ set rs k (f r)
 changed_read k f [] r h e = absurd (omega (arith, h))

@@ -1,8 +1,7 @@
 -- What the tests' scenes are made of.
-use Rattle.std.proofs.Common.{◌≡◌, ℕ, ◌+◌, ◌-◌, ◌≤◌, zero, suc, Bool, true, not, cond, List, [], ◌∷◌, ◌++◌, refl, sym, ap, subst, ◌∙◌, inl, take, drop, filter, append_assoc, append-nil, Option, Some, None, arith}
+use Rattle.std.proofs.Common.{◌≡◌, ℕ, ◌+◌, ◌-◌, ◌≤◌, zero, suc, Bool, true, not, cond, List, [], ◌∷◌, ◌++◌, refl, sym, ap, subst, ◌∙◌, inl, take, drop, filter, Some, arith}
 use Rattle.std.specs.Prelude.{◌↔◌}
-use Rattle.std.proofs.lemmas.List.{map-append}
-use Rattle.std.specs.List.{Contains, AllByRecursion, slice_get}
+use Rattle.std.specs.List.{Contains, slice_get}
 use Rattle.braid_change.specs.Updates.{UpdateView}
 use Rattle.braid_rebase.proofs.Members.{contains_member, member_contains}
 use Rattle.braid_text.specs.Versions.{Version, ancestors_in, has_version}
@@ -11,11 +10,7 @@ use Rattle.braid_text.specs.Histories.{graph_of, versions_at}
 use Rattle.braid_text.specs.Sent.{is_outside}
 use Rattle.braid_store.specs.declared.entry.Entry.{Entry}
 use Rattle.braid_store.specs.Books.{of_path}
-use Rattle.braid_store.specs.Cursors.{CursorView, IsFit, IsNext, left_past}
-use Rattle.braid_outbox.specs.declared.world.Side.{Side}
-use Rattle.braid_outbox.specs.Replicas.{ReplicaView}
-use Rattle.braid_outbox.specs.Worlds.{replica_of}
-use Rattle.braid_world.specs.Events.{replicas_of}
+use Rattle.braid_store.specs.Cursors.{CursorView, IsFit, left_past}
 
 -- nothing is in the ancestry of no version, so all is outside it
 no_ancestor : (vs : List Version) → ancestors_in vs [] ≡ []
@@ -52,23 +47,6 @@ given_none book path F us c none empty p f z fits = record {
   whole = ap (λ (t : List UpdateView). t ++ left_past (of_path book path) [] c.passed) empty ∙ ap (left_past (of_path book path) []) z ∙ all_outside (of_path book path) (of_path book path);
 }
 
-next_here : (book : List Entry) (path : List ℕ) (us : List UpdateView) (c : CursorView) (o : Option UpdateView) (m : ℕ) → IsGiven book path us c → IsNext (of_path book c.path) c.from c.passed o m → IsNext (of_path book path) [] c.passed o m
-next_here book path us c o m g n = subst (λ (F : List (List ℕ)). IsNext (of_path book path) F c.passed o m) g.from_is (subst (λ (p : List ℕ). IsNext (of_path book p) c.from c.passed o m) g.path_is n)
-
-pub given_more : (book : List Entry) (path : List ℕ) (us vs : List UpdateView) (u : UpdateView) (c d : CursorView) → IsGiven book path us c → IsNext (of_path book c.path) c.from c.passed (Some u) d.passed → d ≡ record c { passed = d.passed } → IsFit book d → vs ≡ us ++ u ∷ [] → IsGiven book path vs d
-given_more book path us vs u c d g n same fits more = record {
-  path_is = ap (λ (x : CursorView). x.path) same ∙ g.path_is;
-  from_is = ap (λ (x : CursorView). x.from) same ∙ g.from_is;
-  fits = fits;
-  whole = ap (λ (t : List UpdateView). t ++ left_past (of_path book path) [] d.passed) more
-      ∙ append_assoc us (u ∷ []) (left_past (of_path book path) [] d.passed)
-      ∙ ap (λ (t : List UpdateView). us ++ t) (sym (next_here book path us c (Some u) d.passed g n).0)
-      ∙ g.whole;
-}
-
-pub given_all : (book : List Entry) (path : List ℕ) (us : List UpdateView) (c : CursorView) (m : ℕ) → IsGiven book path us c → IsNext (of_path book c.path) c.from c.passed None m → us ≡ of_path book path
-given_all book path us c m g n = sym (append-nil us) ∙ ap (λ (t : List UpdateView). us ++ t) (sym (next_here book path us c None m g n).0) ∙ g.whole
-
 -- a cursor is opened where its frontier is held
 pub fit_held : (book : List Entry) (c : CursorView) (path : List ℕ) (from : List (List ℕ)) → IsFit book c → c.path ≡ path → c.from ≡ from → HoldsAll (graph_of (of_path book path)) from
 fit_held book c path from fits p f = subst (λ (F : List (List ℕ)). HoldsAll (graph_of (of_path book path)) F) f (subst (λ (q : List ℕ). HoldsAll (graph_of (of_path book q)) c.from) p fits.held)
@@ -89,19 +67,3 @@ pub entries_more : (xs us vs : List UpdateView) (from n : ℕ) (x : UpdateView) 
 entries_more xs us vs from n x l h e f =
     let step : suc (n - from) ≡ n + 1 - from = omega (arith, l) in
     f ∙ ap (λ (t : List UpdateView). t ++ x ∷ []) e ∙ sym (part_more xs from n (n - from) x (omega (arith, l)) h) ∙ ap (λ (k : ℕ). take k (drop from xs)) step
-
--- one more side
-pub all_more : {A : Type 0} (P : A → Type 0) (xs ys : List A) (x : A) → AllByRecursion P xs → P x → ys ≡ xs ++ x ∷ [] → AllByRecursion P ys
-all_more {A} P xs ys x h p e = subst (AllByRecursion P) (sym e) (go xs h)
-  where
-    go : (zs : List A) → AllByRecursion P zs → AllByRecursion P (zs ++ x ∷ [])
-    go [] k = (p, tt)
-    go (z ∷ zs) k = (k.0, go zs k.1)
-
-pub replicas_more : (ss ts : List Side) (s : Side) (rs : List ReplicaView) (r : ReplicaView) (n : ℕ) → replicas_of ss ≡ take n rs → replica_of s ≡ r → slice_get rs n ≡ Some r → ts ≡ ss ++ s ∷ [] → replicas_of ts ≡ take (suc n) rs
-replicas_more ss ts s rs r n e f h more = ap replicas_of more ∙ map-append replica_of ss (s ∷ []) ∙ (λ i. e i ++ f i ∷ []) ∙ sym (front rs n r h)
-  where
-    front : (xs : List ReplicaView) (k : ℕ) (x : ReplicaView) → slice_get xs k ≡ Some x → take (suc k) xs ≡ take k xs ++ x ∷ []
-    front [] k x h = cc
-    front (y ∷ xs) zero x h = let e : y ≡ x = cc in ap (λ (t : ReplicaView). t ∷ []) e
-    front (y ∷ xs) (suc k) x h = ap (λ (t : List ReplicaView). y ∷ t) (front xs k x h)

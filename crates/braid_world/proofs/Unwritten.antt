@@ -1,9 +1,8 @@
 -- A change that has a fault is not written.
-use Rattle.std.proofs.Common.{◌≡◌, ◌≢◌, ℕ, ◌<◌, ◌≤◌, ◌^◌, ◌-◌, List, [], Bool, true, false, not, ◌&&◌, cond, nat_lt, refl, sym, ap, ◌∙◌, arith, length, Some, None, is_some, Result, Ok, Err}
+use Rattle.std.proofs.Common.{◌≡◌, ◌≢◌, ℕ, ◌<◌, ◌≤◌, ◌^◌, ◌-◌, List, [], Bool, true, false, not, ◌&&◌, cond, nat_lt, refl, sym, ap, ◌∙◌, arith, Some, None, is_some, Result, Ok, Err}
 use Rattle.std.proofs.lemmas.Bool.Decides.{nat_tests}
 use Rattle.std.specs.Result.{OnOk, OnErr}
 use Rattle.braid_change.specs.declared.change.Change.{Change}
-use Rattle.braid_change.specs.Changes.{patches_of}
 use Rattle.braid_change.specs.Splices.{spliced, first_past}
 use Rattle.braid_change.proofs.Built.{built_faultless}
 use Rattle.braid_change.proofs.Pieces.{undefined_past}
@@ -20,7 +19,7 @@ use Rattle.braid_outbox.specs.declared.faults.WriteFault.TheVariants.{Shape, Out
 use Rattle.braid_outbox.specs.Shapes.{is_change}
 use Rattle.braid_outbox.specs.Replicas.{ReplicaView, all_of}
 use Rattle.braid_outbox.specs.Writes.{IsWriteFault, is_written, last_number, write_needs, with_unsent, additions, write}
-use Rattle.braid_outbox.proofs.Shapes.{built_from, shaped_from}
+use Rattle.braid_outbox.proofs.Shapes.{built_from}
 
 -- a fact of a result that is there, from another one
 pub ok_map : {X E : Type 0} (A B : Type 0) (r : Result X E) → OnOk r A → (A → B) → OnOk r B
@@ -83,14 +82,6 @@ unwritten limits r c Memory is other = absurd (other refl)
 pub write_none : (limits : Room) (r : ReplicaView) (c : Change) → is_written limits r c ≡ false → r ≡ write limits r c
 write_none limits r c h = sym (ap (λ (b : Bool). cond b (with_unsent r (additions r c)) r) h)
 
--- a change of too many patches is not written
-pub too_many : (limits : Room) (r : ReplicaView) (c : Change) → 1000 < length (patches_of c) → is_written limits r c ≡ false
-too_many limits r c l = not_both (is_written limits r c) (λ h. let s = (shaped_from c (due limits r c h).change).0 in absurd (omega (arith, l, s.few)))
-
 -- at a fault but want of memory a replica that stayed is what the write leaves
 pub left_as : (limits : Room) (r q : ReplicaView) (c : Change) (fault : WriteFault) → IsWriteFault limits r c fault → fault ≢ Memory → q ≡ r → q ≡ write limits r c
 left_as limits r q c fault is other e = e ∙ write_none limits r c (unwritten limits r c fault is other)
-
--- and so it is at a change of too many patches
-pub passed_as : (limits : Room) (r : ReplicaView) (c : Change) → 2 ^ 32 - 1 < length (patches_of c) → r ≡ write limits r c
-passed_as limits r c l = write_none limits r c (too_many limits r c (omega (arith, l)))
