@@ -137,27 +137,6 @@ show_lost name fault old new h = go fault (not_loaded name fault old new h)
 pub show_done : (name : List ℕ) (kept : Kept) (text : List ℕ) (old new : Keeping) → LoadsKept name (Ok kept) old new → text ≡ show_text kept.place.path kept.replica → ShowsState name old new (Ok (done_with text))
 show_done name kept text old new l t = subst (λ (s : List ℕ). ShowsState name old new (Ok (done_with s))) (sym t) (shown kept.place kept.replica l.1 l.2)
 
--- at every end but Done the text for it does not count
-pub not_done : (text other : List ℕ) (end : SyncEnd) → end ≢ ends.Done → ended_with text end ≡ ended_with other end
-not_done text other ends.Done n = absurd (n refl)
-not_done text other ends.Cut n = refl
-not_done text other (ends.Peer status) n = refl
-not_done text other (ends.BadHead x) n = refl
-not_done text other ends.NoCurrent n = refl
-not_done text other ends.BadCurrent n = refl
-not_done text other ends.OtherMergeType n = refl
-not_done text other (ends.BadStream x) n = refl
-not_done text other (ends.Clash v) n = refl
-not_done text other (ends.UnknownParent v) n = refl
-not_done text other (ends.OutOfRange p l) n = refl
-not_done text other (ends.Full w l) n = refl
-not_done text other ends.DialFault n = refl
-not_done text other ends.ReadFault n = refl
-not_done text other ends.WriteFault n = refl
-not_done text other ends.OutFault n = refl
-not_done text other ends.Spent n = refl
-not_done text other ends.Memory n = refl
-
 -- `sync`
 module _ (name : List ℕ) (old mid new : Keeping) (dialing dialed : Dialing) where
   pub sync_lost : (fault : Fault) → LoadsKept name (Err fault) old new → RunsSync name old new dialing dialing (Err fault)

@@ -13,9 +13,6 @@ use Rattle.braid_outbox.specs.Replicas.{ReplicaView, all_of}
 use Rattle.braid_outbox.specs.Writes.{additions, is_written, write, with_unsent}
 use Rattle.braid_client.specs.Texts.{wrote_text, line_with}
 
-pub none_yet : {A : Type 0} (xs : List A) (from : ℕ) → [] ≡ drop from (take from xs)
-none_yet xs from = sym (drop_all from (take from xs) (let l = length-take from xs in omega (arith, l)))
-
 pub one_more : {A : Type 0} (xs : List A) (from n : ℕ) (x : A) → from ≤ n → slice_get xs n ≡ Some x → drop from (take (n + 1) xs) ≡ drop from (take n xs) ++ x ∷ []
 one_more xs from n x l e =
     let w = slice_get_within xs n x e in
@@ -24,13 +21,6 @@ one_more xs from n x l e =
 
 pub all_taken : {A : Type 0} (xs : List A) (from n : ℕ) → n ≡ length xs → drop from (take n xs) ≡ drop from xs
 all_taken xs from n e = ap (drop from) (take_all n xs (omega (arith, e)))
-
--- the confirmed updates and the unsent ones
-pub confirmed_are : (r : ReplicaView) (n : ℕ) → n ≡ length r.confirmed → drop 0 (take n (all_of r)) ≡ r.confirmed
-confirmed_are r n e = ap (λ (k : ℕ). take k (all_of r)) e ∙ take-append_seam r.confirmed r.unsent
-
-pub unsent_are : (r : ReplicaView) (n m : ℕ) → n ≡ length r.confirmed → m ≡ length (all_of r) → drop n (take m (all_of r)) ≡ r.unsent
-unsent_are r n m e f = all_taken (all_of r) n m f ∙ ap (λ (k : ℕ). drop k (all_of r)) e ∙ drop-append_seam r.confirmed r.unsent
 
 -- what a write added stands behind all that was there
 pub written_behind : (limits : Room) (r q : ReplicaView) (c : Change) (n : ℕ) → is_written limits r c ≡ true → q ≡ write limits r c → n ≡ length r.confirmed + length r.unsent → (drop n (all_of q) ≡ additions r c) × (n ≤ length (all_of q))

@@ -41,7 +41,8 @@ fn carry<K: Keeper, D: Dialer, O: Sink>(
     out: &mut O,
 ) -> Result<Report, Fault>
     requires placed { IsPlaced command }
-    ensures carries { Carries name.now command result (setting (K.keeping keeper.old) (D.dialing dialer.old) (O.outflow out.old))
+    ensures carries { Carries name.now command result
+        (setting (K.keeping keeper.old) (D.dialing dialer.old) (O.outflow out.old))
         (setting (K.keeping keeper.new) (D.dialing dialer.new) (O.outflow out.new)) }
     ensures kept { O.beside_writes out.new ≡ O.beside_writes out.old }
 {

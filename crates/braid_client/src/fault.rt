@@ -5,7 +5,8 @@ use braid_ids::Memory as NoMemory;
 use braid_io::Status;
 use braid_outbox::WriteFault;
 
-/// Why a command is not carried out. Nothing is kept then, but that a save which failed may leave anything under its name.
+/// Why a command is not carried out. Nothing is kept then, but that a save which failed may leave anything under its
+/// name.
 #[derive(Debug, Drop)]
 pub enum Fault {
     /// The words have no form of a command.

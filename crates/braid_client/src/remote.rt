@@ -15,8 +15,8 @@ use braid_outbox::Replica;
 use braid_sync::{Followed, SyncEnd, follow, sync};
 use std::alloc::Global;
 
-/// `sync`: learns and sends by the state that is kept under the name, and keeps what that left, at every end but for want
-/// of memory.
+/// `sync`: learns and sends by the state that is kept under the name, and keeps what that left, at every end but for
+/// want of memory.
 pub(crate) fn sync_kept<K: Keeper, D: Dialer>(
     alloc: Global,
     name: &Word,
@@ -49,8 +49,8 @@ fn sync_report(alloc: Global, replica: &Replica, end: &SyncEnd) -> Result<Report
     }
 }
 
-/// `follow`: learns updates as they come by the state that is kept under the name, prints a line for each, and keeps what
-/// that left, at every end but for want of memory: also where a line could not be printed.
+/// `follow`: learns updates as they come by the state that is kept under the name, prints a line for each, and keeps
+/// what that left, at every end but for want of memory: also where a line could not be printed.
 pub(crate) fn follow_kept<K: Keeper, D: Dialer, O: Sink>(
     alloc: Global,
     name: &Word,

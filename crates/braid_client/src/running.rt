@@ -19,14 +19,14 @@ use std::alloc::Global;
 /// - `sync STATE` learns what the server has and sends what is unsent (`sync`);
 /// - `follow STATE COUNT` learns COUNT updates as they come, 1 to 262,144, and prints a line for each (`follow`).
 ///
-/// docs/FORMATS.md lists the lines. Other words print `fault: Usage`. Links are dialled by `sync` and `follow` alone. What
-/// a command leaves is kept once, before its last line is printed: by `sync` and `follow` at every end, also where the line
-/// of an update could not be printed. A save that failed takes the place of the end before it.
+/// docs/FORMATS.md lists the lines. Other words print `fault: Usage`. Links are dialled by `sync` and `follow` alone.
+/// What a command leaves is kept once, before its last line is printed: by `sync` and `follow` at every end, also where
+/// the line of an update could not be printed. A save that failed takes the place of the end before it.
 ///
 /// The status: Done where all was done and printed; Bad where the state, the change or a reply is at fault; Usage for
-/// other words; Cut where a reply was cut, the server answered with another status, or too many bytes came; Outside where
-/// a load, a save, a dial, a read or a write failed; Memory where there was none, and then nothing is kept. Behind a line
-/// that could not be written nothing more is printed.
+/// other words; Cut where a reply was cut, the server answered with another status, or too many bytes came; Outside
+/// where a load, a save, a dial, a read or a write failed; Memory where there was none, and then nothing is kept.
+/// Behind a line that could not be written nothing more is printed.
 pub fn client_run<K: Keeper, D: Dialer, O: Sink>(
     alloc: Global,
     words: &[Word],
@@ -34,7 +34,8 @@ pub fn client_run<K: Keeper, D: Dialer, O: Sink>(
     dialer: &mut D,
     out: &mut O,
 ) -> Status
-    ensures runs { ClientRuns words.now result (setting (K.keeping keeper.old) (D.dialing dialer.old) (O.outflow out.old))
+    ensures runs { ClientRuns words.now result
+        (setting (K.keeping keeper.old) (D.dialing dialer.old) (O.outflow out.old))
         (setting (K.keeping keeper.new) (D.dialing dialer.new) (O.outflow out.new)) }
     ensures hung_up { (D.dialing dialer.new).servers ≡ (D.dialing dialer.old).servers }
     ensures kept { O.beside_writes out.new ≡ O.beside_writes out.old }

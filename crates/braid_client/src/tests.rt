@@ -11,8 +11,8 @@ use std::test::Fail;
 pub const EMPTY: &[u8] =
     b"braid-state 1\nagent: a\nserver: 127.0.0.1:9000\npath: /doc\nconfirmed: 0\nunsent: 0\n\nend\n";
 
-/// What `show` prints of `a-1` with the body `hi`, and `a-2` behind it, which inserts `!` at the end. The digest was computed by
-/// python3's hashlib.
+/// What `show` prints of `a-1` with the body `hi`, and `a-2` behind it, which inserts `!` at the end. The digest was
+/// computed by python3's hashlib.
 const SHOWN: &[u8] =
     b"agent: a\npath: /doc\nfrontier: \"a-2\"\nconfirmed: 0\nunsent: 2\nlength: 3\ndigest: d6a9da9e5ebb36306738a6f7800ca58457be539ee19a3352b120623b5ca42e89\ntext:\nhi!\n";
 

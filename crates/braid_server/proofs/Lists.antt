@@ -48,12 +48,6 @@ pub all_two : {X : Type 0} (P Q R : X → Type 0) (xs : List X) → ((x : X) →
 all_two P Q R [] f h k = tt
 all_two P Q R (x ∷ xs) f h k = (f x h.0 k.0, all_two P Q R xs f h.1 k.1)
 
--- a front that is as long as the whole is the whole
-pub whole_front : {X : Type 0} (all front rest : List X) → all ≡ front ++ rest → length front ≡ length all → front ≡ all
-whole_front all front [] e l = sym (append-nil front) ∙ sym e
-whole_front all front (x ∷ rest) e l =
-    let long = ap length e in let k = length-append front (x ∷ rest) in absurd (omega (arith, l, long, k))
-
 -- lists that are as long, and agree at each place
 pub zip_each : {X : Type 0} (R : X → X → Type 0) (xs ys : List X) → length ys ≡ length xs
     → ((k : ℕ) (d : X) → k < length xs → R (get_or xs k d) (get_or ys k d)) → AllZip R xs ys

@@ -17,17 +17,23 @@ pub(crate) enum FormFault {
     Memory,
 }
 
+/// The most workers.
+pub(crate) const MOST_WORKERS: u32 = 32;
+
+/// The most connections that are taken.
+pub(crate) const MOST_TAKEN: u32 = 1_000_000;
+
 /// The command: a server, and the options `--workers` and `--take`.
 fn serve_command<'a>(alloc: Global) -> Result<Command<'a>, AllocError>
-    ensures { IfOk result (λ c. app_of c ≡ serve_app) }
+    ensures ok { IfOk result (λ c. app_of c ≡ serve_app) }
 {
     let server = Arg::new(alloc, "server").required(true);
     let workers = Arg::new(alloc, "workers")
         .long("workers")
-        .value_parser(clap::value_parser!(u32).range(1..=32));
+        .value_parser(clap::value_parser!(u32).range(1..=MOST_WORKERS as i64));
     let take = Arg::new(alloc, "take")
         .long("take")
-        .value_parser(clap::value_parser!(u32).range(1..=1000000));
+        .value_parser(clap::value_parser!(u32).range(1..=MOST_TAKEN as i64));
     let command = Command::new(alloc, "serve")
         .no_binary_name(true)
         .disable_help_flag(true)

@@ -5,7 +5,7 @@ ghost use Rattle.std.specs.List.{AllByRecursion};
 ghost use Rattle.braid_io.specs.declared.port.Asked.{Asked};
 ghost use Rattle.braid_server.specs.Commands.{AsksFor, IsForm};
 
-use crate::command::{FormFault, matches, number_or};
+use crate::command::{FormFault, MOST_TAKEN, MOST_WORKERS, matches, number_or};
 use braid_fields::is_server;
 use braid_ids::{Bytes, Word};
 use braid_io::Asked;
@@ -16,7 +16,7 @@ use std::str;
 const WORKERS: u32 = 4;
 
 /// The number of connections where the words name none.
-const TAKE: u32 = 1_000_000;
+const TAKE: u32 = MOST_TAKEN;
 
 /// The words as texts.
 fn texts_of<'a>(alloc: Global, words: &'a [Word]) -> Result<Vec<&'a str>, FormFault>
@@ -49,10 +49,10 @@ fn asked_of(alloc: Global, texts: &[&str]) -> Result<Asked, FormFault>
     if !is_server(server.as_bytes()) {
         return Err(FormFault::NoForm);
     }
-    let Some(workers) = number_or(matches.get_str("workers"), WORKERS, 1, 32) else {
+    let Some(workers) = number_or(matches.get_str("workers"), WORKERS, 1, MOST_WORKERS) else {
         return Err(FormFault::NoForm);
     };
-    let Some(take) = number_or(matches.get_str("take"), TAKE, 1, 1_000_000) else {
+    let Some(take) = number_or(matches.get_str("take"), TAKE, 1, MOST_TAKEN) else {
         return Err(FormFault::NoForm);
     };
     let Ok(server) = Bytes::of(alloc, server.as_bytes()) else {
