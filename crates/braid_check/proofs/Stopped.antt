@@ -1,5 +1,5 @@
 -- A history that is read update by update, and how its reading stops.
-use Rattle.std.proofs.Common.{◌≡◌, ℕ, List, [], ◌∷◌, ◌++◌, refl, ap, sym, subst, ◌∙◌, arith, inl}
+use Rattle.std.proofs.Common.{◌≡◌, ℕ, List, [], ◌∷◌, ◌++◌, refl, ap, sym, subst, ◌∙◌, arith, inl, inr}
 use Rattle.braid_io.specs.Outside.{Intake, Moves}
 use Rattle.braid_change.specs.Updates.{UpdateView}
 use Rattle.braid_frame.specs.declared.fed.FrameFault.{FrameFault}
@@ -20,6 +20,7 @@ use Rattle.braid_check.specs.Kept.{Keeps, StopsFor, ReadsHistory}
 use Rattle.braid_check.specs.CheckTexts.{found, ended, failed, spent, fault, refusal, stream, torn, ShowNothing, text_at_stop, status_of, torn_text, history_text, refusal_text}
 use Rattle.braid_io.specs.Outside.{Outflow, WritesAll}
 use Rattle.braid_io.specs.declared.status.Status.{Status}
+use Rattle.braid_lines.specs.Prints.{IsPrinted}
 use Rattle.braid_check.specs.Runs.{GivesSome, Checked, CheckRuns}
 
 -- as far as it was read: a history, by a reader that goes on
@@ -131,3 +132,11 @@ runs_whole stop status text before after old new e c w = subst (λ (s : Status).
     go (stops.Refused answer) c = inl (text, c, w)
     go stops.ReadFault c = inl (text, c, w)
     go stops.Spent c = inl (text, c, w)
+
+-- the same of a text that was printed, whole or in part
+pub runs_printed : (stop : Stop) (own status : Status) (text : List ℕ) (before after : Intake) (old new : Outflow) → own ≡ status_of stop → Checked before after (status_of stop) text
+    → IsPrinted text own status old new → CheckRuns status before after old new
+runs_printed stop own status text before after old new e c (inl h) =
+    subst (λ (s : Status). CheckRuns s before after old new) (sym h.0) (runs_whole stop own text before after old new e c h.1)
+runs_printed stop own status text before after old new e c (inr h) =
+    subst (λ (s : Status). CheckRuns s before after old new) (sym h.0) (inr (refl, (status_of stop, text, c, h.1)))

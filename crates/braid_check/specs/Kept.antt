@@ -41,7 +41,7 @@ StopsFor us bytes before after stops.End = EndsBehind bytes before after × IsSt
     × (length bytes < most_bytes)
 StopsFor us bytes before after (stops.Torn at) =
     EndsBehind bytes before after × HaveUpdates us bytes × IsTorn bytes × (at ≡ length bytes)
-        × (length bytes < most_bytes)
+    × (length bytes < most_bytes)
 StopsFor us bytes before after (stops.Fault f) = Moves bytes before after × HasFault us bytes f
     × (length bytes ≤ most_bytes)
 StopsFor us bytes before after (stops.Refused answer) =

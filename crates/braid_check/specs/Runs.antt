@@ -2,7 +2,8 @@
 use Rattle.std.specs.Prelude.{◌≡◌, ◌≢◌, ℕ, ◌<◌, ◌≤◌, ◌⊎◌, List, [], ◌∷◌, Some, length, codes}
 use Rattle.braid_io.specs.Outside.{Intake, Outflow, Moves, Rose, WritesAll, WritesPart}
 use Rattle.braid_io.specs.declared.status.Status.{Status}
-use Rattle.braid_io.specs.declared.status.Status.TheVariants.{Done, Usage, Outside, Memory}
+use Rattle.braid_io.specs.declared.status.Status.TheVariants.{Done, Outside, Memory}
+use Rattle.braid_lines.specs.Prints.{EndsAsUsage}
 use Rattle.braid_change.specs.Updates.{UpdateView}
 use Rattle.braid_grammar.specs.Streams.{IsStream}
 use Rattle.braid_stream.specs.Pieces.{GivesBytes, FailsBehind, EndsBehind}
@@ -38,20 +39,11 @@ CheckRuns Memory before after old new = GivesSome before after × (new ≡ old)
 CheckRuns status before after old new =
     ((text : List ℕ) × Checked before after status text × WritesAll text old new)
     ⊎ ((status ≡ Outside)
-        × ((own : Status) × (text : List ℕ) × Checked before after own text × WritesPart text old new))
-
--- the line for words that are no command
-abbrev pub usage_text : List ℕ
-usage_text = codes "fault: Usage\n"
+    × ((own : Status) × (text : List ℕ) × Checked before after own text × WritesPart text old new))
 
 -- the words of `check`
 abbrev pub check_words : List (List ℕ)
 check_words = codes "check" ∷ []
-
--- the line was written under status Usage, or a front of it under status Outside where a write failed
-abbrev pub EndsAsUsage : Status → Outflow → Outflow → Type 0
-EndsAsUsage status old new =
-    ((status ≡ Usage) × WritesAll usage_text old new) ⊎ ((status ≡ Outside) × WritesPart usage_text old new)
 
 -- other words: the source is left alone, and the line is written
 pub record LeavesAlone (status : Status) (before after : Intake) (old new : Outflow) : Type 0 where

@@ -1,10 +1,11 @@
 ghost use Rattle.std.specs.Prelude.{◌≡◌};
-ghost use Rattle.braid_check.specs.Runs.{CheckRuns, EndsAsUsage, Runs, Succeeds};
+ghost use Rattle.braid_check.specs.Runs.{CheckRuns, Runs, Succeeds};
 
 use crate::reading::read_history;
 use crate::report::report;
 use braid_ids::Word;
-use braid_io::{Sink, Source, Status, write_all};
+use braid_io::{Sink, Source, Status};
+use braid_lines::{print, refuse_words};
 use std::alloc::Global;
 
 /// Carries out `check`, where that is the one word: takes the updates of a stream from `source` into one resource with the
@@ -39,20 +40,6 @@ pub fn check_run<S: Source, O: Sink>(
     }
 }
 
-/// Writes that the words are no command: `fault: Usage`.
-///
-/// The status: Usage where the line was written; Outside where a write failed, and then a front of the line was. It takes no
-/// memory.
-pub fn refuse_words<O: Sink>(out: &mut O) -> Status
-    ensures refused { EndsAsUsage result (O.outflow out.old) (O.outflow out.new) }
-    ensures kept { O.beside_writes out.new ≡ O.beside_writes out.old }
-{
-    match write_all(b"fault: Usage\n", out) {
-        Ok(()) => Status::Usage,
-        Err(_) => Status::Outside,
-    }
-}
-
 /// Reads a stream from the source, and writes its report.
 fn check_stream<S: Source, O: Sink>(alloc: Global, source: &mut S, out: &mut O) -> Status
     ensures runs { CheckRuns result (S.intake source.old) (S.intake source.new) (O.outflow out.old)
@@ -66,8 +53,5 @@ fn check_stream<S: Source, O: Sink>(alloc: Global, source: &mut S, out: &mut O) 
     let Ok(text) = report(alloc, &resource, &stop) else {
         return Status::Memory;
     };
-    match write_all(text.get(), out) {
-        Ok(()) => stop.status(),
-        Err(_) => Status::Outside,
-    }
+    print(out, text.get(), stop.status())
 }

@@ -20,7 +20,7 @@ mod report;
 mod stop;
 mod taking;
 
-pub use check::{check_run, refuse_words};
+pub use check::check_run;
 
 #[cfg(test)]
 mod long_chain;

@@ -11,10 +11,11 @@ use Rattle.braid_session.specs.declared.worker.WorkerEnd.{WorkerEnd}
 use Rattle.braid_session.specs.declared.worker.WorkerEnd.TheVariants as ends
 use Rattle.braid_session.specs.declared.worker.WorkerNote.{WorkerNote}
 use Rattle.braid_check.specs.CheckTexts.{Ending, found, ended, failed, spent, stream, torn, IsCheckText}
-use Rattle.braid_check.specs.Runs.{check_words, usage_text, CheckRuns, EndsAsUsage, LeavesAlone}
+use Rattle.braid_lines.specs.Prints.{IsPrinted, EndsAsUsage, usage_line}
+use Rattle.braid_check.specs.Runs.{check_words, CheckRuns, LeavesAlone}
 use Rattle.braid_server.specs.declared.serve.Served.{Served}
 use Rattle.braid_server.specs.Commands as serving
-use Rattle.braid_server.specs.Texts.{usage_line, port_fault_line, serving_line, last_lines, Prints}
+use Rattle.braid_server.specs.Texts.{port_fault_line, serving_line, last_lines}
 use Rattle.braid_server.specs.Workers.{sessions_of}
 use Rattle.braid_server.specs.Runs.{with_end, status_of, BeforeWork, not_told, cut_short, without_hall, without_workers, ServesPairs, no_work, work, ServeRuns, no_form, no_memory, no_port, opened}
 use Rattle.braid_client.specs.declared.command.Command.{Command}
@@ -69,7 +70,7 @@ no_form_at words c s a d (client_form name command f) = a name command f
 no_form_at words c s a d (drill_form asked f) = d asked f
 
 -- a text that was written under its own status, where the status is Usage
-own_is_usage : (text : List ℕ) (own status : Status) (old new : Outflow) → Prints text own status old new → status ≡ Usage → (own ≡ Usage) × WritesAll text old new
+own_is_usage : (text : List ℕ) (own status : Status) (old new : Outflow) → IsPrinted text own status old new → status ≡ Usage → (own ≡ Usage) × WritesAll text old new
 own_is_usage text own status old new (inl h) u = (sym h.0 ∙ u, h.1)
 own_is_usage text own status old new (inr h) u = absurd (let z : Outside ≡ Usage = sym h.0 ∙ u in cc)
 
@@ -118,7 +119,7 @@ pairs_no_usage doorway ringing asked given served old new (work book middle b l 
 -- a server with status Usage
 serve_usage : {D L : Type 0} (doorway : D → Doorway) (ringing : L → Ringing) (words : List (List ℕ)) (served : Served D L) (before after : Porting) (old new : Outflow)
     → ServeRuns doorway ringing words served before after old new → served.status ≡ Usage
-    → ((asked : Asked) → ¬ serving.IsForm words asked) × (after ≡ before) × WritesAll usage_text old new
+    → ((asked : Asked) → ¬ serving.IsForm words asked) × (after ≡ before) × WritesAll usage_line old new
 serve_usage doorway ringing words served before after old new (no_form none empty same p) u = (none, same, (own_is_usage usage_line Usage served.status old new p u).1)
 serve_usage doorway ringing words served before after old new (no_memory empty m same silent) u = absurd (let z : Memory ≡ Usage = sym m ∙ u in cc)
 serve_usage doorway ringing words served before after old new (no_port asked is empty fails p) u =
@@ -128,7 +129,7 @@ serve_usage doorway ringing words served before after old new (opened asked give
 
 -- a drill with status Usage
 drill_usage : (words : List (List ℕ)) (status : Status) (old new : Outflow) → drill_runs.DrillRuns words status old new → status ≡ Usage
-    → ((asked : drilled.Asked) → ¬ drilling.IsForm words asked) × WritesAll usage_text old new
+    → ((asked : drilled.Asked) → ¬ drilling.IsForm words asked) × WritesAll usage_line old new
 drill_usage words status old new (drill_runs.no_form none p) u = (none, (own_is_usage usage_line Usage status old new p u).1)
 drill_usage words status old new (drill_runs.drilled asked text is report p) u =
     absurd (let z : Done ≡ Usage = (own_is_usage text Done status old new p u).0 in cc)
@@ -150,7 +151,7 @@ only_usage doorway ringing words ran old new (checks picked unserved same runs s
           (λ name command f. not_two words Check Client picked (λ e. cc) (client_run words name command f))
           (λ asked f. not_two words Check Drill picked (λ e. cc) (drill_run words asked f));
       untouched = same ∙ ap (λ (i : Intake). record old { intake = i; outflow = new.outflow }) alone.untouched;
-      line = (own_is_usage usage_text Usage ran.status old.outflow new.outflow alone.line u).1;
+      line = (own_is_usage usage_line Usage ran.status old.outflow new.outflow alone.line u).1;
     }
   where
     other : words ≢ check_words
@@ -170,7 +171,7 @@ only_usage doorway ringing words ran old new (serves served picked there status 
       line = was.2;
     }
   where
-    was : ((asked : Asked) → ¬ serving.IsForm words asked) × (new.porting ≡ old.porting) × WritesAll usage_text old.outflow new.outflow
+    was : ((asked : Asked) → ¬ serving.IsForm words asked) × (new.porting ≡ old.porting) × WritesAll usage_line old.outflow new.outflow
     was = serve_usage doorway ringing words served old.porting new.porting old.outflow new.outflow runs (sym status ∙ u)
 only_usage doorway ringing words ran old new (asks picked unserved same runs) u =
     record {
@@ -183,7 +184,7 @@ only_usage doorway ringing words ran old new (asks picked unserved same runs) u 
       line = was.2;
     }
   where
-    was : asking.HasNoForm words × (setting_of new ≡ record (setting_of old) { outflow = new.outflow }) × WritesAll usage_text old.outflow new.outflow
+    was : asking.HasNoForm words × (setting_of new ≡ record (setting_of old) { outflow = new.outflow }) × WritesAll usage_line old.outflow new.outflow
     was = causes.only_usage words (setting_of old) (setting_of new)
         (subst (λ (s : Status). ClientRuns words s (setting_of old) (setting_of new)) u runs)
 only_usage doorway ringing words ran old new (drills picked unserved same runs) u =
@@ -197,7 +198,7 @@ only_usage doorway ringing words ran old new (drills picked unserved same runs) 
       line = was.1;
     }
   where
-    was : ((asked : drilled.Asked) → ¬ drilling.IsForm words asked) × WritesAll usage_text old.outflow new.outflow
+    was : ((asked : drilled.Asked) → ¬ drilling.IsForm words asked) × WritesAll usage_line old.outflow new.outflow
     was = drill_usage words ran.status old.outflow new.outflow runs u
 only_usage doorway ringing words ran old new (refuses picked unserved same runs) u =
     record {
@@ -207,7 +208,7 @@ only_usage doorway ringing words ran old new (refuses picked unserved same runs)
           (λ name command f. not_none words Client picked (client_run words name command f))
           (λ asked f. not_none words Drill picked (drill_run words asked f));
       untouched = same;
-      line = (own_is_usage usage_text Usage ran.status old.outflow new.outflow runs u).1;
+      line = (own_is_usage usage_line Usage ran.status old.outflow new.outflow runs u).1;
     }
 
 -- the line was written, or a front of it

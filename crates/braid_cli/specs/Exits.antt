@@ -5,7 +5,7 @@ use Rattle.braid_io.specs.Doors.{Doorway}
 use Rattle.braid_io.specs.Statuses.{status_code}
 use Rattle.braid_io.specs.declared.status.Status.{Status}
 use Rattle.braid_io.specs.declared.status.Status.TheVariants as statuses
-use Rattle.braid_check.specs.Runs.{EndsAsUsage}
+use Rattle.braid_lines.specs.Prints.{EndsAsUsage}
 use Rattle.braid_cli.specs.declared.commands.Ran.{Ran}
 use Rattle.braid_cli.specs.declared.words.WordsFault.{WordsFault}
 use Rattle.braid_cli.specs.declared.words.WordsFault.TheVariants.{NotText, Memory}

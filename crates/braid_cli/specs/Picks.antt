@@ -5,7 +5,8 @@ use Rattle.braid_io.specs.Bells.{Ringing}
 use Rattle.braid_io.specs.Dialers.{Dialing}
 use Rattle.braid_io.specs.Doors.{Doorway, Porting}
 use Rattle.braid_io.specs.Keepers.{Keeping}
-use Rattle.braid_check.specs.Runs.{Runs, Succeeds, EndsAsUsage}
+use Rattle.braid_lines.specs.Prints.{EndsAsUsage}
+use Rattle.braid_check.specs.Runs.{Runs, Succeeds}
 use Rattle.braid_client.specs.Runs.{Setting, ClientRuns}
 use Rattle.braid_drill.specs.Runs.{DrillRuns}
 use Rattle.braid_server.specs.declared.serve.Served.{Served}

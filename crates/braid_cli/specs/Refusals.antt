@@ -6,7 +6,8 @@ use Rattle.braid_io.specs.Doors.{Doorway}
 use Rattle.braid_io.specs.declared.port.Asked.{Asked}
 use Rattle.braid_io.specs.declared.status.Status.{Status}
 use Rattle.braid_io.specs.declared.status.Status.TheVariants.{Usage, Outside, Memory}
-use Rattle.braid_check.specs.Runs.{check_words, usage_text}
+use Rattle.braid_lines.specs.Prints.{usage_line}
+use Rattle.braid_check.specs.Runs.{check_words}
 use Rattle.braid_server.specs.Commands as serving
 use Rattle.braid_client.specs.declared.command.Command.{Command}
 use Rattle.braid_client.specs.Forms as asking
@@ -26,7 +27,7 @@ pub data HasForm (words : List (List ℕ)) : Type 0 where
 pub record AreRefused (words : List (List ℕ)) (old new : Surroundings) : Type 0 where
   pub none : ¬ HasForm words
   pub untouched : new ≡ record old { outflow = new.outflow }
-  pub line : WritesAll usage_text old.outflow new.outflow
+  pub line : WritesAll usage_line old.outflow new.outflow
 
 -- A run ends with status Usage only at words that ask for nothing.
 abbrev pub OnlyUsage : {D L : Type 0} → (D → Doorway) → (L → Ringing) → Type 0

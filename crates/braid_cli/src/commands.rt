@@ -4,11 +4,12 @@ ghost use Rattle.braid_cli.specs.Exits.{ExitsRun, ExitsUnread};
 
 use crate::table::{Run, run_of};
 use crate::words::WordsFault;
-use braid_check::{check_run, refuse_words};
+use braid_check::check_run;
 use braid_client::client_run;
 use braid_drill::drill_run;
 use braid_ids::Word;
 use braid_io::{Dialer, Keeper, Port, Sink, Source, Status};
+use braid_lines::refuse_words;
 use braid_server::{Served, serve_run};
 use std::alloc::Global;
 use std::marker::Sync;

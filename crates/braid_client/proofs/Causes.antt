@@ -20,7 +20,8 @@ use Rattle.braid_client.specs.declared.fault.Fault.{Fault}
 use Rattle.braid_client.specs.declared.fault.Fault.TheVariants as faults
 use Rattle.braid_client.specs.declared.report.Report.{Report}
 use Rattle.braid_client.specs.Texts.{fault_line, fault_name, fault_status, end_text, end_status, new_text, wrote_text, show_text, synced_text, followed_text}
-use Rattle.braid_client.specs.Runs.{Setting, done_with, LacksReplica, MakesState, new_unloaded, new_exists, new_unkept, new_made, new_unaided, WritesChange, write_lacking, write_refused, write_unkept, written, write_unaided, ShowsState, show_lacking, shown, show_unaided, RunsSync, sync_lacking, sync_unkept, sync_ended, sync_unbegun, sync_unaided, RunsFollow, follow_lacking, follow_unkept, follow_unprinted, follow_ended, follow_unbegun, follow_unaided, Carries, CarriesWords, Reports, Faults, GivesUp, Finishes}
+use Rattle.braid_lines.specs.Prints.{IsPrinted}
+use Rattle.braid_client.specs.Runs.{Setting, done_with, LacksReplica, MakesState, new_unloaded, new_exists, new_unkept, new_made, new_unaided, WritesChange, write_lacking, write_refused, write_unkept, written, write_unaided, ShowsState, show_lacking, shown, show_unaided, RunsSync, sync_lacking, sync_unkept, sync_ended, sync_unbegun, sync_unaided, RunsFollow, follow_lacking, follow_unkept, follow_unprinted, follow_ended, follow_unbegun, follow_unaided, Carries, CarriesWords, Faults, GivesUp, Finishes}
 use Rattle.braid_client.specs.Laws.{SomeRose, OutsideRose, LoadFaultRose, SaveFaultRose, OnlyUsage, NoFormIsUsage, KeepsNone}
 use Rattle.braid_client.proofs.Counts.{rose_after, rose_before, carried_as, part_rose, words_up, finishes_up}
 use Rattle.braid_client.proofs.OneTalk.{out_line}
@@ -229,7 +230,7 @@ outside_rose words old new run = go run.result (words_outer words run.result old
     behind : Rose run.before.faults new.outflow.faults → SomeRose old new
     behind h = inr (inr (inr (inr (inr (rose_after old.outflow.faults run.before.faults new.outflow.faults low h)))))
 
-    part : (text : List ℕ) (own : Status) → own ≢ Outside → Reports text own Outside run.before new.outflow → SomeRose old new
+    part : (text : List ℕ) (own : Status) → own ≢ Outside → IsPrinted text own Outside run.before new.outflow → SomeRose old new
     part text own n (inl h) = absurd (n (sym h.0))
     part text own n (inr h) = behind h.1.rose
 

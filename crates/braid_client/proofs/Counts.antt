@@ -12,7 +12,8 @@ use Rattle.braid_client.specs.declared.fault.Fault.{Fault}
 use Rattle.braid_client.specs.declared.fault.Fault.TheVariants as faults
 use Rattle.braid_client.specs.declared.report.Report.{Report}
 use Rattle.braid_client.specs.Forms.{IsForm, HasNoForm}
-use Rattle.braid_client.specs.Runs.{Setting, OnlyKeeps, RunsFollow, follow_lacking, follow_unkept, follow_unprinted, follow_ended, follow_unbegun, follow_unaided, Carries, CarriesWords, words_no_form, words_unaided, words_formed, Reports, Faults, GivesUp, Finishes}
+use Rattle.braid_lines.specs.Prints.{IsPrinted}
+use Rattle.braid_client.specs.Runs.{Setting, OnlyKeeps, RunsFollow, follow_lacking, follow_unkept, follow_unprinted, follow_ended, follow_unbegun, follow_unaided, Carries, CarriesWords, words_no_form, words_unaided, words_formed, Faults, GivesUp, Finishes}
 use Rattle.braid_client.specs.Laws.{SomeRose}
 
 -- a count that rose behind another, or before it
@@ -79,7 +80,7 @@ words_up words old new result h = elim (carried_as words old new result h) [
   | inr (inr k) ↦ carries_up k.0 k.1 result old new k.3
 ]
 
-reports_up : (text : List ℕ) (own status : Status) (old new : Outflow) → Reports text own status old new → old.faults ≤ new.faults
+reports_up : (text : List ℕ) (own status : Status) (old new : Outflow) → IsPrinted text own status old new → old.faults ≤ new.faults
 reports_up text own status old new (inl h) = let e = h.1.faults in omega (arith, e)
 reports_up text own status old new (inr h) = h.1.never_falls
 

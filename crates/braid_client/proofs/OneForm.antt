@@ -5,7 +5,8 @@ use Rattle.braid_grammar.proofs.Characters.{text_chars}
 use Rattle.braid_sync.specs.declared.place.Place.{Place}
 use Rattle.braid_client.specs.declared.command.Command.{Command}
 use Rattle.braid_client.specs.declared.command.Command.TheVariants.{New, Edit, Set, Show, Sync, Follow}
-use Rattle.braid_client.specs.Forms.{IsNumber, Asks}
+use Rattle.braid_lines.specs.Numbers.{IsNumber}
+use Rattle.braid_client.specs.Forms.{Asks}
 use Rattle.braid_client.specs.Laws.{OneForm}
 
 -- a command's own word

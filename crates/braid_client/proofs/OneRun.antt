@@ -29,7 +29,8 @@ use Rattle.braid_client.specs.declared.fault.Fault.TheVariants as faults
 use Rattle.braid_client.specs.declared.report.Report.{Report}
 use Rattle.braid_client.specs.Forms.{Asks, IsForm}
 use Rattle.braid_client.specs.Texts.{new_text, wrote_text, show_text, synced_text, followed_text}
-use Rattle.braid_client.specs.Runs.{Setting, first_of, KeepsState, done_with, ended_with, MakesState, new_unloaded, new_exists, new_unkept, new_made, new_unaided, WritesChange, write_lacking, write_refused, write_unkept, written, write_unaided, ShowsState, show_lacking, shown, show_unaided, RunsSync, sync_lacking, sync_unkept, sync_ended, sync_unbegun, sync_unaided, RunsFollow, follow_lacking, follow_unkept, follow_unprinted, follow_ended, follow_unbegun, follow_unaided, range_change, Carries, CarriesWords, Reports, Faults, GivesUp, Finishes, ClientRuns}
+use Rattle.braid_lines.specs.Prints.{IsPrinted}
+use Rattle.braid_client.specs.Runs.{Setting, first_of, KeepsState, done_with, ended_with, MakesState, new_unloaded, new_exists, new_unkept, new_made, new_unaided, WritesChange, write_lacking, write_refused, write_unkept, written, write_unaided, ShowsState, show_lacking, shown, show_unaided, RunsSync, sync_lacking, sync_unkept, sync_ended, sync_unbegun, sync_unaided, RunsFollow, follow_lacking, follow_unkept, follow_unprinted, follow_ended, follow_unbegun, follow_unaided, range_change, Carries, CarriesWords, Faults, GivesUp, Finishes, ClientRuns}
 use Rattle.braid_client.specs.Laws.{SomeRose, IsReplicaOf, GainsTelling, TellsLinks, OneRun}
 use Rattle.braid_client.proofs.Unwritten.{one_unwritten, written_faultless}
 use Rattle.braid_client.proofs.Found.{Lacks, held_is, lacks_one, has_or_lacks, has_one, has_found, lacks_found}
@@ -281,7 +282,7 @@ words_one words kept old a b x y told g d c e n m h k = elim (carried_as words o
         command_one o.own o.rest other wish kept old a b x y o.asks told (g other wish o) d c e n m moved t
 
 -- the last text, twice
-reports_one : (text : List ℕ) (own s t : Status) (before a b : Outflow) → (Rose before.faults a.faults → ⊥) → (Rose before.faults b.faults → ⊥) → Reports text own s before a → Reports text own t before b → (s ≡ t) × (a ≡ b)
+reports_one : (text : List ℕ) (own s t : Status) (before a b : Outflow) → (Rose before.faults a.faults → ⊥) → (Rose before.faults b.faults → ⊥) → IsPrinted text own s before a → IsPrinted text own t before b → (s ≡ t) × (a ≡ b)
 reports_one text own s t before a b n m (inl h) (inl k) =
     let put : a.written ≡ b.written = h.1.written ∙ sym k.1.written in
     let stayed : a.faults ≡ b.faults = h.1.faults ∙ sym k.1.faults in

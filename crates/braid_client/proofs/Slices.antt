@@ -1,9 +1,9 @@
 -- Updates of a replica from one number up to and without another.
 use Rattle.std.proofs.Common.{◌≡◌, ℕ, ◌+◌, ◌≤◌, List, [], ◌∷◌, ◌++◌, length, take, drop, true, Some, refl, sym, ap, ◌∙◌, cond, codes, Bool, append-nil, append_assoc, length-append, arith}
 use Rattle.std.specs.List.{slice_get}
-use Rattle.std.proofs.lemmas.List.{take_all, drop_all, drop-append-le, length-take-le, length-take}
+use Rattle.std.proofs.lemmas.List.{take_all, drop-append-le, length-take-le}
 use Rattle.std.proofs.lemmas.Option.{slice_get_within}
-use Rattle.std.proofs.Math.Seq.{take-append_seam, drop-append_seam}
+use Rattle.std.proofs.Math.Seq.{drop-append_seam}
 use Rattle.braid_ids.specs.Identifiers.{spelled_id}
 use Rattle.braid_change.specs.Updates.{UpdateView}
 use Rattle.braid_change.specs.declared.change.Change.{Change}

@@ -1,17 +1,11 @@
 -- The words of the client's commands, and what they ask for.
-use Rattle.std.specs.Prelude.{◌≡◌, ℕ, ◌<◌, ◌≤◌, ◌^◌, List, [], ◌∷◌, length, codes, IsUtf8}
-use Rattle.std.specs.Str.Parse.{IsNumeral, digits_value}
+use Rattle.std.specs.Prelude.{◌≡◌, ℕ, ◌<◌, ◌≤◌, ◌^◌, List, [], ◌∷◌, codes, IsUtf8}
 use Rattle.braid_ids.specs.Agents.{IsAgent}
+use Rattle.braid_lines.specs.Numbers.{IsNumber}
 use Rattle.braid_change.specs.Texts.{IsTextOf}
 use Rattle.braid_client.specs.declared.command.Command.{Command}
 use Rattle.braid_client.specs.declared.command.Command.TheVariants.{New, Edit, Set, Show, Sync, Follow}
 use Rattle.braid_sync.specs.Opening.{IsPlace}
-
--- a word is a number: 1 to 20 decimal digits
-pub record IsNumber (word : List ℕ) (n : ℕ) : Type 0 where
-  pub numeral : IsNumeral 10 word
-  pub short : length word ≤ 20
-  pub value : n ≡ digits_value 10 word
 
 -- a command's own word, and the words behind the state's name, ask for this
 abbrev pub Asks : List ℕ → List (List ℕ) → Command → Type 0

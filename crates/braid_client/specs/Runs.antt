@@ -1,12 +1,13 @@
 -- What each of the client's commands keeps, sends and prints, by its words, what is kept, and what its links give.
 use Rattle.std.specs.Prelude.{◌≡◌, ◌≢◌, ◌⊎◌, ℕ, List, [], ◌∷◌, Some, None, true, Result, Ok, Err}
-use Rattle.braid_io.specs.Outside.{Outflow, WritesAll, WritesPart}
+use Rattle.braid_io.specs.Outside.{Outflow}
 use Rattle.braid_io.specs.Dialers.{Dialing}
 use Rattle.braid_io.specs.Keepers.{Keeping, Holds, Loads, Saves}
 use Rattle.braid_io.specs.declared.keeper.Loaded.TheVariants as loads
 use Rattle.braid_io.specs.declared.keeper.Saved.TheVariants as saves
 use Rattle.braid_io.specs.declared.status.Status.{Status}
 use Rattle.braid_io.specs.declared.status.Status.TheVariants as statuses
+use Rattle.braid_lines.specs.Prints.{IsPrinted}
 use Rattle.braid_change.specs.declared.patch.Patch.{Patch}
 use Rattle.braid_change.specs.declared.change.Change.{Change}
 use Rattle.braid_change.specs.declared.change.Change.TheVariants.{Body, Patches}
@@ -220,14 +221,9 @@ pub data CarriesWords (words : List (List ℕ)) (old new : Setting) : Result Rep
   words_formed : (name : List ℕ) (command : Command) (result : Result Report Fault) → IsForm words name command
       → Carries name command result old new → CarriesWords words old new result
 
--- a text was written whole, under its own status; or a front of it, under status Outside, where a write failed
-abbrev pub Reports : List ℕ → Status → Status → Outflow → Outflow → Type 0
-Reports text own status old new =
-    ((status ≡ own) × WritesAll text old new) ⊎ ((status ≡ statuses.Outside) × WritesPart text old new)
-
 -- a fault's line was written, or a front of it
 abbrev pub Faults : Fault → Status → Outflow → Outflow → Type 0
-Faults fault status old new = Reports (fault_line (fault_name fault)) (fault_status fault) status old new
+Faults fault status old new = IsPrinted (fault_line (fault_name fault)) (fault_status fault) status old new
 
 -- there was no memory, and nothing more is printed
 abbrev pub GivesUp : Status → Outflow → Outflow → Type 0
@@ -236,7 +232,7 @@ GivesUp status old new = (status ≡ statuses.Memory) × (new ≡ old)
 -- What is printed at last: the text of a success or of an end, or the line of a fault. There may be no memory for a
 -- line that has a number or a name in it.
 abbrev pub Finishes : Result Report Fault → Status → Outflow → Outflow → Type 0
-Finishes (Ok report) status old new = Reports report.text report.status status old new
+Finishes (Ok report) status old new = IsPrinted report.text report.status status old new
 Finishes (Err (faults.BadState at)) status old new = Faults (faults.BadState at) status old new ⊎ GivesUp status old new
 Finishes (Err (faults.BadEntry n)) status old new = Faults (faults.BadEntry n) status old new ⊎ GivesUp status old new
 Finishes (Err (faults.Write fault)) status old new = Faults (faults.Write fault) status old new ⊎ GivesUp status old new

@@ -1,14 +1,15 @@
 //! A run of the client, from its words to its last line.
 
 ghost use Rattle.std.specs.Prelude.{◌≡◌, Err};
-ghost use Rattle.braid_client.specs.Runs.{ClientRuns, Finishes, Reports, setting};
+ghost use Rattle.braid_client.specs.Runs.{ClientRuns, Finishes, setting};
 
 use crate::carrying::carry_words;
 use crate::fault::Fault;
 use crate::lines::{detailed_line, plain_line};
 use crate::report::Report;
 use braid_ids::Word;
-use braid_io::{Dialer, Keeper, Sink, Status, write_all};
+use braid_io::{Dialer, Keeper, Sink, Status};
+use braid_lines::print;
 use std::alloc::Global;
 
 /// Carries out one command of a client on the state that `keeper` keeps under a name:
@@ -66,16 +67,5 @@ fn print_fault<O: Sink>(alloc: Global, fault: &Fault, out: &mut O) -> Status
     match detailed_line(alloc, fault) {
         Ok(line) => print(out, line.get(), fault.status()),
         Err(_) => Status::Memory,
-    }
-}
-
-/// Writes a text whose status this is. Answers that status, or Outside where a write failed.
-fn print<O: Sink>(out: &mut O, text: &[u8], status: Status) -> Status
-    ensures reports { Reports text.now status result (O.outflow out.old) (O.outflow out.new) }
-    ensures kept { O.beside_writes out.new ≡ O.beside_writes out.old }
-{
-    match write_all(text, out) {
-        Ok(()) => status,
-        Err(_) => Status::Outside,
     }
 }

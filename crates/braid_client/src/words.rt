@@ -4,7 +4,8 @@ ghost use Rattle.std.specs.Prelude.{◌≡◌, ◌≢◌, ◌<◌, ◌≤◌, �
 ghost use Rattle.braid_ids.specs.Agents.{IsAgent};
 ghost use Rattle.braid_change.specs.Texts.{IsTextOf};
 ghost use Rattle.braid_sync.specs.Opening.{IsPlace};
-ghost use Rattle.braid_client.specs.Forms.{IsNumber, IsForm};
+ghost use Rattle.braid_lines.specs.Numbers.{IsNumber};
+ghost use Rattle.braid_client.specs.Forms.{IsForm};
 ghost use Rattle.braid_client.specs.Steps.{FindsCommand, IsWordsFault, SpellsNoText};
 
 use crate::command::Command;
@@ -12,14 +13,12 @@ use crate::fault::Fault;
 use braid_change::{Text, TextFault};
 use braid_fields::{is_path, is_server};
 use braid_ids::{Agent, AgentFault, Bytes, Memory, Word};
+use braid_lines::read_number;
 use braid_sync::Place;
 use std::alloc::Global;
 
-/// The most digits of a number.
-const MOST_DIGITS: usize = 20;
-
 /// The most updates that a follow may be asked for.
-const MOST_FOLLOWED: u32 = 262_144;
+const MOST_FOLLOWED: u64 = 262_144;
 
 /// The name of the state that the words of a command name, and what they ask for.
 ///
@@ -106,10 +105,10 @@ fn read_edit(alloc: Global, rest: &[Word]) -> Result<Option<Command>, Memory>
     let [start, end, text] = rest else {
         return Ok(None);
     };
-    let Some(start) = read_number(start.get()) else {
+    let Some(start) = read_index(start.get()) else {
         return Ok(None);
     };
-    let Some(end) = read_number(end.get()) else {
+    let Some(end) = read_index(end.get()) else {
         return Ok(None);
     };
     let Some(text) = read_text(alloc, text.get())? else {
@@ -138,31 +137,26 @@ fn read_follow(rest: &[Word]) -> Option<Command>
     let [count] = rest else {
         return None;
     };
-    let Some(count) = read_number(count.get()) else {
+    let Some(count) = read_number(count.get(), MOST_FOLLOWED) else {
         return None;
     };
-    if count == 0 || count > MOST_FOLLOWED {
+    if count == 0 {
         return None;
     }
-    Some(Command::Follow { count })
+    Some(Command::Follow {
+        count: count as u32,
+    })
 }
 
 /// The number below 2 to the 32nd that a word is, in 1 to 20 decimal digits.
-fn read_number(word: &[u8]) -> Option<u32>
+fn read_index(word: &[u8]) -> Option<u32>
     ensures number { MatchOption result ((n : ℕ) → n < 2 ^ 32 → ¬ IsNumber word.now n)
         (λ n. IsNumber word.now n × (n < 2 ^ 32)) }
 {
-    // What is read as a number may begin with a plus; a word may not.
-    if word.len() > MOST_DIGITS || word.first() == Some(&b'+') {
-        return None;
-    }
-    let Ok(text) = str::from_utf8(word) else {
+    let Some(n) = read_number(word, u32::MAX as u64) else {
         return None;
     };
-    match text.parse::<u32>() {
-        Ok(n) => Some(n),
-        Err(_) => None,
-    }
+    Some(n as u32)
 }
 
 /// The agent that a word names.

@@ -5,7 +5,7 @@ use Rattle.braid_io.specs.Outside.{Outflow, Rose, WritesAll}
 use Rattle.braid_io.specs.declared.status.Status.{Status}
 use Rattle.braid_io.specs.declared.status.Status.TheVariants.{Done, Bad, Usage, Outside, Memory, Cut}
 use Rattle.braid_drill.specs.declared.words.Asked.{Asked}
-use Rattle.braid_drill.specs.Lines.{usage_line, Prints}
+use Rattle.braid_lines.specs.Prints.{IsPrinted, usage_line}
 use Rattle.braid_drill.specs.Runs.{IsReport, no_form, drilled, no_memory}
 use Rattle.braid_drill.specs.Laws.{OneFormLaw, CompletesLaw, RefusesLaw, CausesLaw}
 
@@ -19,7 +19,7 @@ one_form words asked other h k =
     λ i. record { seed = x i; rounds = y i }
 
 -- where no write failed, the text was written under its own status
-written : (text : List ℕ) (own status : Status) (old new : Outflow) → Prints text own status old new → ¬ Rose old.faults new.faults → (status ≡ own) × WritesAll text old new
+written : (text : List ℕ) (own status : Status) (old new : Outflow) → IsPrinted text own status old new → ¬ Rose old.faults new.faults → (status ≡ own) × WritesAll text old new
 written text own status old new (inl h) quiet = h
 written text own status old new (inr h) quiet = absurd (quiet h.1.rose)
 
@@ -36,11 +36,11 @@ refuses words status old new none (drilled asked text is report p) quiet = absur
 refuses words status old new none (no_memory asked is lacks same) quiet = absurd (none asked is)
 
 -- a text was written under its own status, or under Outside, where a write failed
-outside_rose : (text : List ℕ) (own status : Status) (old new : Outflow) → own ≢ Outside → Prints text own status old new → status ≡ Outside → Rose old.faults new.faults
+outside_rose : (text : List ℕ) (own status : Status) (old new : Outflow) → own ≢ Outside → IsPrinted text own status old new → status ≡ Outside → Rose old.faults new.faults
 outside_rose text own status old new other (inl h) o = absurd (other (sym h.0 ∙ o))
 outside_rose text own status old new other (inr h) o = h.1.rose
 
-no_third : (text : List ℕ) (own status third : Status) (old new : Outflow) → own ≢ third → Outside ≢ third → Prints text own status old new → status ≢ third
+no_third : (text : List ℕ) (own status third : Status) (old new : Outflow) → own ≢ third → Outside ≢ third → IsPrinted text own status old new → status ≢ third
 no_third text own status third old new a b (inl h) e = a (sym h.0 ∙ e)
 no_third text own status third old new a b (inr h) e = b (sym h.0 ∙ e)
 

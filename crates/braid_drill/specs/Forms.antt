@@ -1,13 +1,7 @@
 -- The words of a drill, and what they ask for.
-use Rattle.std.specs.Prelude.{◌≡◌, ℕ, ◌<◌, ◌≤◌, ◌^◌, List, [], ◌∷◌, length, codes}
-use Rattle.std.specs.Str.Parse.{IsNumeral, digits_value}
+use Rattle.std.specs.Prelude.{◌≡◌, ℕ, ◌<◌, ◌≤◌, ◌^◌, List, [], ◌∷◌, codes}
+use Rattle.braid_lines.specs.Numbers.{IsNumber}
 use Rattle.braid_drill.specs.declared.words.Asked.{Asked}
-
--- a word is a number: 1 to 20 decimal digits
-pub record IsNumber (word : List ℕ) (n : ℕ) : Type 0 where
-  pub numeral : IsNumeral 10 word
-  pub short : length word ≤ 20
-  pub value : n ≡ digits_value 10 word
 
 -- words are the form of a drill: `drill`, a seed below 2 to the 64th, and a number of rounds, 1 to 20,000
 pub record IsForm (words : List (List ℕ)) (asked : Asked) : Type 0 where

@@ -5,7 +5,7 @@ use Rattle.braid_io.specs.declared.status.Status.{Status}
 use Rattle.braid_io.specs.declared.status.Status.TheVariants.{Done, Bad, Usage, Outside, Memory, Cut}
 use Rattle.braid_drill.specs.declared.words.Asked.{Asked}
 use Rattle.braid_drill.specs.Forms.{IsForm, HasNoForm}
-use Rattle.braid_drill.specs.Lines.{usage_line}
+use Rattle.braid_lines.specs.Prints.{usage_line}
 use Rattle.braid_drill.specs.Runs.{IsReport, DrillRuns}
 
 -- words have one form at most

@@ -1,14 +1,7 @@
 -- What a drill prints.
-use Rattle.std.specs.Prelude.{◌≡◌, ◌⊎◌, ℕ, List, ◌++◌, codes, decimal}
+use Rattle.std.specs.Prelude.{ℕ, List, ◌++◌, codes, decimal}
 use Rattle.hex.specs.Hex.{encode_lower}
-use Rattle.braid_io.specs.Outside.{Outflow, WritesAll, WritesPart}
-use Rattle.braid_io.specs.declared.status.Status.{Status}
-use Rattle.braid_io.specs.declared.status.Status.TheVariants.{Outside}
 use Rattle.braid_drill.specs.declared.report.Summary.{Summary}
-
--- the line for words of no form
-abbrev pub usage_line : List ℕ
-usage_line = codes "fault: Usage\n"
 
 -- a line with a number
 abbrev pub count_line : List ℕ → ℕ → List ℕ
@@ -23,8 +16,3 @@ summary_text rounds s =
     ++ (count_line (codes "unsent: ") s.unsent
     ++ (count_line (codes "equal: ") s.equal
     ++ (codes "digest: " ++ (encode_lower s.digest ++ codes "\n")))))
-
--- a text was written whole, under its own status; or a front of it, under status Outside, where a write failed
-abbrev pub Prints : List ℕ → Status → Status → Outflow → Outflow → Type 0
-Prints text own status old new =
-    ((status ≡ own) × WritesAll text old new) ⊎ ((status ≡ Outside) × WritesPart text old new)

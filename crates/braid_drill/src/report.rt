@@ -1,11 +1,10 @@
 //! The lines of a drill.
 
-ghost use Rattle.std.specs.Prelude.{◌≡◌, ◌++◌, IfOk, OnOk, codes, decimal, string_bytes};
+ghost use Rattle.std.specs.Prelude.{◌≡◌, ◌++◌, IfOk, OnOk, codes, decimal};
 ghost use Rattle.hex.specs.Hex.{encode_lower};
-ghost use Rattle.braid_drill.specs.Lines.{summary_text, Prints};
+ghost use Rattle.braid_drill.specs.Lines.{summary_text};
 
 use braid_ids::{Bytes, Memory};
-use braid_io::{Sink, Status, write_all};
 use std::alloc::Global;
 
 /// What has become of a drill.
@@ -51,15 +50,4 @@ fn push_digest(alloc: Global, text: &mut Bytes, digest: &[u8; 32]) -> Result<(),
     text.push(b"digest: ")?;
     text.push(digits.as_bytes())?;
     text.push(b"\n")
-}
-
-/// Writes a text whose status this is. Answers that status, or Outside where a write failed.
-pub(crate) fn print<O: Sink>(out: &mut O, text: &[u8], status: Status) -> Status
-    ensures prints { Prints text.now status result (O.outflow out.old) (O.outflow out.new) }
-    ensures kept { O.beside_writes out.new ≡ O.beside_writes out.old }
-{
-    match write_all(text, out) {
-        Ok(()) => status,
-        Err(_) => Status::Outside,
-    }
 }

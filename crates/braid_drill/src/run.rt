@@ -5,11 +5,12 @@ ghost use Rattle.braid_drill.specs.Runs.{DrillRuns, IsReport};
 
 use crate::drill::{place_of, play, replicas_of};
 use crate::local_dialer::LocalDialer;
-use crate::report::{print, summary_text};
+use crate::report::summary_text;
 use crate::server::Server;
 use crate::words::{Asked, read_words};
 use braid_ids::{Bytes, Memory, Word};
 use braid_io::{Sink, Status};
+use braid_lines::{print, refuse_words};
 use std::alloc::Global;
 use std::marker::Sync;
 use std::sync::Wait;
@@ -32,7 +33,7 @@ pub fn drill_run<R: Wait + Sync, O: Sink>(
     ensures kept { O.beside_writes out.new ≡ O.beside_writes out.old }
 {
     let Some(asked) = read_words(words) else {
-        return print(out, b"fault: Usage\n", Status::Usage);
+        return refuse_words(out);
     };
     match drill(alloc, rt, asked) {
         Ok(text) => print(out, text.get(), Status::Done),

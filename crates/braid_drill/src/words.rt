@@ -1,12 +1,10 @@
 //! The words of a drill.
 
-ghost use Rattle.std.specs.Prelude.{◌≡◌, ◌<◌, ◌^◌, ℕ, MatchOption};
-ghost use Rattle.braid_drill.specs.Forms.{IsNumber, HasNoForm, IsForm};
+ghost use Rattle.std.specs.Prelude.{MatchOption};
+ghost use Rattle.braid_drill.specs.Forms.{HasNoForm, IsForm};
 
 use braid_ids::Word;
-
-/// The most digits of a number.
-const MOST_DIGITS: usize = 20;
+use braid_lines::read_number;
 
 /// The most rounds.
 const MOST_ROUNDS: u64 = 20_000;
@@ -28,35 +26,17 @@ pub(crate) fn read_words(words: &[Word]) -> Option<Asked>
     if own.get() != b"drill".as_slice() {
         return None;
     }
-    let Some(seed) = read_number(seed.get()) else {
+    let Some(seed) = read_number(seed.get(), u64::MAX) else {
         return None;
     };
-    let Some(rounds) = read_number(rounds.get()) else {
+    let Some(rounds) = read_number(rounds.get(), MOST_ROUNDS) else {
         return None;
     };
-    if rounds == 0 || rounds > MOST_ROUNDS {
+    if rounds == 0 {
         return None;
     }
     Some(Asked {
         seed,
         rounds: rounds as u32,
     })
-}
-
-/// The number below 2 to the 64th that a word is, in 1 to 20 decimal digits.
-fn read_number(word: &[u8]) -> Option<u64>
-    ensures number { MatchOption result ((n : ℕ) → n < 2 ^ 64 → ¬ IsNumber word.now n)
-        (λ n. IsNumber word.now n × (n < 2 ^ 64)) }
-{
-    // What is read as a number may begin with a plus; a word may not.
-    if word.len() > MOST_DIGITS || word.first() == Some(&b'+') {
-        return None;
-    }
-    let Ok(text) = str::from_utf8(word) else {
-        return None;
-    };
-    match text.parse::<u64>() {
-        Ok(n) => Some(n),
-        Err(_) => None,
-    }
 }

@@ -10,7 +10,8 @@ use Rattle.braid_session.specs.declared.worker.WorkerNote.{WorkerNote}
 use Rattle.braid_server.specs.declared.serve.Served.{Served}
 use Rattle.braid_server.specs.declared.workers.Worked.{Worked}
 use Rattle.braid_server.specs.Workers.{HaveWorked, LeavesWork, sessions_of}
-use Rattle.braid_server.specs.Texts.{serving_line, last_lines, Prints}
+use Rattle.braid_lines.specs.Prints.{IsPrinted}
+use Rattle.braid_server.specs.Texts.{serving_line, last_lines}
 use Rattle.braid_server.specs.Runs.{status_of, Finishes, FinishesWith, PrintsLast, BeforeWork, without_workers, ServesPairs, no_work, work}
 
 -- what workers left decides what is left of the run
@@ -39,8 +40,8 @@ ended_before doorway ringing asked given served old new book workers doors is be
 -- what was printed last
 pub prints_last : (book : List Entry) (notes counted judged : List WorkerNote) (text lines : List ℕ) (versions sessions : ℕ) (own status : Status) (old new : Outflow)
     → text ≡ lines → lines ≡ last_lines versions sessions → versions ≡ length book → sessions ≡ sessions_of counted → counted ≡ notes → own ≡ status_of judged → judged ≡ notes
-    → Prints text own status old new → PrintsLast book notes status old new
+    → IsPrinted text own status old new → PrintsLast book notes status old new
 prints_last book notes counted judged text lines versions sessions own status old new is lines_are versions_are sessions_are same own_is also p =
-    inl (subst (λ (t : List ℕ). Prints t (status_of notes) status old new)
+    inl (subst (λ (t : List ℕ). IsPrinted t (status_of notes) status old new)
     (is ∙ lines_are ∙ ap (λ (v : ℕ). last_lines v sessions) versions_are ∙ ap (last_lines (length book)) (sessions_are ∙ ap sessions_of same))
-    (subst (λ (s : Status). Prints text s status old new) (own_is ∙ ap status_of also) p))
+    (subst (λ (s : Status). IsPrinted text s status old new) (own_is ∙ ap status_of also) p))

@@ -5,7 +5,8 @@ use Rattle.braid_io.specs.Bells.{Ringing}
 use Rattle.braid_io.specs.Doors.{Doorway, Porting, IsNewPair}
 use Rattle.braid_io.specs.declared.port.Asked.{Asked}
 use Rattle.braid_io.specs.declared.status.Status.{Status}
-use Rattle.braid_io.specs.declared.status.Status.TheVariants.{Done, Usage, Outside, Memory}
+use Rattle.braid_io.specs.declared.status.Status.TheVariants.{Done, Outside, Memory}
+use Rattle.braid_lines.specs.Prints.{IsPrinted, EndsAsUsage}
 use Rattle.braid_store.specs.declared.entry.Entry.{Entry}
 use Rattle.braid_store.specs.Books.{IsLegalBook}
 use Rattle.braid_session.specs.declared.worker.WorkerEnd.{WorkerEnd}
@@ -15,7 +16,7 @@ use Rattle.braid_server.specs.declared.serve.Served.{Served}
 use Rattle.braid_server.specs.declared.workers.Worked.{Worked}
 use Rattle.braid_server.specs.Commands.{IsForm}
 use Rattle.braid_server.specs.Workers.{HaveWorked, sessions_of}
-use Rattle.braid_server.specs.Texts.{usage_line, port_fault_line, serving_line, last_lines, Prints}
+use Rattle.braid_server.specs.Texts.{port_fault_line, serving_line, last_lines}
 
 -- the status that the end of one worker asks for, where this one is due
 abbrev pub with_end : WorkerEnd → Status → Status
@@ -63,7 +64,7 @@ pub data BeforeWork (line : List ℕ) (status : Status) (old new : Outflow) : Op
 -- The last lines were written, under the status that the workers' ends ask for; or there was no memory for them.
 abbrev pub PrintsLast : List Entry → List WorkerNote → Status → Outflow → Outflow → Type 0
 PrintsLast book notes status old new =
-    Prints (last_lines (length book) (sessions_of notes)) (status_of notes) status old new
+    IsPrinted (last_lines (length book) (sessions_of notes)) (status_of notes) status old new
     ⊎ ((status ≡ Memory) × (new ≡ old))
 
 -- What is left where a port gave these doors and bells: the run ended before its workers began, and they are as they
@@ -85,12 +86,12 @@ pub data ServeRuns {D L : Type 0} (doorway : D → Doorway) (ringing : L → Rin
     (served : Served D L)
     (before after : Porting) (old new : Outflow) : Type 0 where
   no_form : ((asked : Asked) → ¬ IsForm words asked) → HasNone served → after ≡ before
-      → Prints usage_line Usage served.status old new
+      → EndsAsUsage served.status old new
       → ServeRuns doorway ringing words served before after old new
   no_memory : HasNone served → served.status ≡ Memory → after ≡ before → new ≡ old
       → ServeRuns doorway ringing words served before after old new
   no_port : (asked : Asked) → IsForm words asked → HasNone served → FailsToOpen asked before after
-      → Prints port_fault_line Outside served.status old new
+      → IsPrinted port_fault_line Outside served.status old new
       → ServeRuns doorway ringing words served before after old new
   opened : (asked : Asked) (given : List (D × L)) → IsForm words asked → Gives doorway ringing asked given before after
       → ServesPairs doorway ringing asked given served old new

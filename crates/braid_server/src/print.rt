@@ -1,26 +1,15 @@
 //! What `serve` prints.
 
 ghost use Rattle.std.specs.Prelude.{◌≡◌, ◌++◌, IfOk, OnOk, decimal};
-ghost use Rattle.braid_server.specs.Texts.{serving_line, last_lines, Prints};
+ghost use Rattle.braid_server.specs.Texts.{serving_line, last_lines};
 ghost use Rattle.braid_server.specs.Workers.{sessions_of};
 ghost use Rattle.braid_server.specs.Runs.{status_of, with_end};
 
 use braid_ids::{Bytes, Memory};
-use braid_io::{Sink, Status, write_all};
+use braid_io::Status;
 use braid_session::{WorkerEnd, WorkerNote};
 use itoa::Buffer;
 use std::alloc::Global;
-
-/// Writes a text whose status this is. Answers that status, or Outside where a write failed.
-pub(crate) fn print<O: Sink>(out: &mut O, text: &[u8], status: Status) -> Status
-    ensures prints { Prints text.now status result (O.outflow out.old) (O.outflow out.new) }
-    ensures kept { O.beside_writes out.new ≡ O.beside_writes out.old }
-{
-    match write_all(text, out) {
-        Ok(()) => status,
-        Err(_) => Status::Outside,
-    }
-}
 
 /// The line once the port is open.
 pub(crate) fn serving_line(alloc: Global, server: &[u8]) -> Result<Bytes, Memory>

@@ -6,11 +6,12 @@ ghost use Rattle.braid_server.specs.Runs.{HasNone, ServeRuns, ServesPairs, Finis
 
 use crate::command::FormFault;
 use crate::form::read_form;
-use crate::print::{last_lines, print, serving_line, sessions_of, status_of};
+use crate::print::{last_lines, serving_line, sessions_of, status_of};
 use crate::workers::{Worked, run_hall};
 use braid_hall::Hall;
 use braid_ids::Word;
 use braid_io::{Asked, Bell, Door, Opened, Port, Sink, Status, write_all};
+use braid_lines::{print, refuse_words};
 use braid_session::ListWorkerNote;
 use braid_store::Book;
 use std::alloc::Global;
@@ -147,9 +148,7 @@ pub fn serve_run<R: Threads + Wait + Sync, P: Port, O: Sink>(
 {
     let asked = match read_form(alloc, words) {
         Ok(asked) => asked,
-        Err(FormFault::NoForm) => {
-            return none_served(alloc, print(out, b"fault: Usage\n", Status::Usage));
-        }
+        Err(FormFault::NoForm) => return none_served(alloc, refuse_words(out)),
         Err(FormFault::Memory) => return none_served(alloc, Status::Memory),
     };
     match port.open(alloc, &asked.server, asked.workers, asked.take) {

@@ -1,6 +1,6 @@
 use Rattle.std.proofs.lemmas.Str.{IsUtf8-from_ascii}
 use Rattle.std.proofs.lemmas.Fmt.{IsAscii-from_digits}
-use Rattle.braid_client.proofs.words.read_number.Goals as goal
+use Rattle.braid_lines.proofs.number.read_number.Goals as goal
 
 -- digits are text
 pub returns-in_default : goal.returns-in_default
