@@ -1,6 +1,5 @@
 -- Streams of the same updates have one text.
-use Rattle.std.proofs.Common.{◌≡◌, ℕ, ◌+◌, List, ◌++◌, length, codes, decimal, encode_utf8_all, ap, ◌∙◌, arith}
-use Rattle.hex.specs.Hex.{encode_lower}
+use Rattle.std.proofs.Common.{◌≡◌, ℕ, ◌+◌, List, ◌++◌, length, codes, decimal, ap, ◌∙◌, arith}
 use Rattle.braid_change.specs.Updates.{UpdateView}
 use Rattle.braid_grammar.specs.Streams.{IsStream}
 use Rattle.braid_graph.specs.Frontiers.{frontier_of}
@@ -11,7 +10,8 @@ use Rattle.braid_text.proofs.Alike.{are_alike}
 use Rattle.braid_text.proofs.Public.{same_text_at, room_versions}
 use Rattle.braid_text.proofs.Digests.{same_digest}
 use Rattle.braid_check.specs.Accepted.{history_of, AreAccepted}
-use Rattle.braid_check.specs.CheckTexts.{history_text, frontier_text}
+use Rattle.braid_lines.specs.Lines.{line_with, frontier_said, content_lines}
+use Rattle.braid_check.specs.CheckTexts.{history_text}
 use Rattle.braid_check.proofs.Once.{once_exact}
 use Rattle.braid_check.proofs.Legal.{keeps_stream}
 
@@ -34,11 +34,9 @@ same_text_of H K h k s =
     ∙ ap (text_at K) (are_alike H K h k s).frontier
 
 same_lines : (H K : List UpdateView) → IsLegal H → IsLegal K → SameGraph H K → history_text H ≡ history_text K
-same_lines H K h k s = λ i. codes "versions: " ++ decimal (same_length H K h k s i)
-    ++ codes "\nfrontier:" ++ frontier_text ((are_alike H K h k s).frontier i)
-    ++ codes "\nlength: " ++ decimal (length (same_text_of H K h k s i))
-    ++ codes "\ndigest: " ++ encode_lower (same_digest H K h k s i)
-    ++ codes "\ntext:\n" ++ encode_utf8_all (same_text_of H K h k s i) ++ codes "\n"
+same_lines H K h k s = λ i. line_with (codes "versions: ") (decimal (same_length H K h k s i))
+    ++ (line_with (codes "frontier:") (frontier_said ((are_alike H K h k s).frontier i))
+    ++ content_lines (same_text_of H K h k s i) (same_digest H K h k s i))
 
 pub order_free : (us vs : List UpdateView) (bytes other : List ℕ) → IsStream us bytes → IsStream vs other → AreAccepted us → AreAccepted vs → SameGraph us vs → history_text (history_of us) ≡ history_text (history_of vs)
 order_free us vs bytes other s t a b g = same_lines (history_of us) (history_of vs) (keeps_stream us bytes s a).legal (keeps_stream vs other t b).legal (same_histories us vs g)

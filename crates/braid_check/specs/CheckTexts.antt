@@ -1,11 +1,9 @@
 -- What `check` prints, by the bytes read and by how reading ended.
-use Rattle.std.specs.Prelude.{◌≡◌, ℕ, List, [], ◌∷◌, ◌++◌, length, codes, decimal, encode_utf8_all}
-use Rattle.hex.specs.Hex.{encode_lower}
-use Rattle.braid_ids.specs.Identifiers.{spelled_id, spelled_ids}
+use Rattle.std.specs.Prelude.{◌≡◌, ℕ, List, [], ◌++◌, length, codes, decimal}
+use Rattle.braid_ids.specs.Identifiers.{spelled_id}
 use Rattle.braid_io.specs.declared.status.Status.{Status}
 use Rattle.braid_io.specs.declared.status.Status.TheVariants.{Done, Bad, Outside, Cut}
 use Rattle.braid_change.specs.Updates.{UpdateView}
-use Rattle.braid_fields.specs.Reasons.{reason_name}
 use Rattle.braid_grammar.specs.Streams.{IsStream, IsTorn, HaveUpdates, BeginsWith}
 use Rattle.braid_frame.specs.declared.fed.FrameFault.{FrameFault}
 use Rattle.braid_frame.specs.Phases.{HasFault}
@@ -14,29 +12,28 @@ use Rattle.braid_text.specs.Histories.{graph_of, text_of}
 use Rattle.braid_text.specs.Digested.{digest_at}
 use Rattle.braid_text.specs.declared.accept.Accept.{Accept}
 use Rattle.braid_text.specs.declared.accept.Accept.TheVariants.{New, Known, Clash, UnknownParent, OutOfRange, Full, Memory}
-use Rattle.braid_text.specs.Rooms.{limit_of, replica_limits, which_name}
+use Rattle.braid_text.specs.Rooms.{limit_of, replica_limits}
+use Rattle.braid_lines.specs.Lines.{line_with, fault_line, stream_name, range_name, full_name, frontier_said, content_lines}
 use Rattle.braid_check.specs.declared.stop.Stop.{Stop}
 use Rattle.braid_check.specs.declared.stop.Stop.TheVariants as stops
 use Rattle.braid_check.specs.Accepted.{AreAccepted, IsRefused, history_of, replica_answer}
 
 -- the line for a fault of the stream
 abbrev pub fault_text : FrameFault → List ℕ
-fault_text f = codes "fault: " ++ reason_name f.reason ++ codes " at " ++ decimal f.at ++ codes "\n"
+fault_text f = fault_line (stream_name f)
 
 -- the line for so many bytes that are all there are, and are neither a stream nor at fault
 abbrev pub torn_text : ℕ → List ℕ
-torn_text at = codes "fault: Torn at " ++ decimal at ++ codes "\n"
+torn_text at = fault_line (codes "Torn at " ++ decimal at)
 
 -- the line for an answer that refuses an update; the other answers have none
 abbrev pub refusal_text : Accept → List ℕ
 refusal_text New = []
 refusal_text Known = []
-refusal_text (Clash id) = codes "fault: Clash " ++ spelled_id id ++ codes "\n"
-refusal_text (UnknownParent id) = codes "fault: UnknownParent " ++ spelled_id id ++ codes "\n"
-refusal_text (OutOfRange patch len) =
-    codes "fault: OutOfRange patch " ++ decimal patch ++ codes " len " ++ decimal len ++ codes "\n"
-refusal_text (Full which need room) =
-    codes "fault: Full " ++ which_name which ++ codes " " ++ decimal (limit_of replica_limits which) ++ codes "\n"
+refusal_text (Clash id) = fault_line (codes "Clash " ++ spelled_id id)
+refusal_text (UnknownParent id) = fault_line (codes "UnknownParent " ++ spelled_id id)
+refusal_text (OutOfRange patch len) = fault_line (range_name patch len)
+refusal_text (Full which need room) = fault_line (full_name which (limit_of replica_limits which))
 refusal_text Memory = []
 
 -- the line for a read that failed
@@ -47,20 +44,13 @@ read_fault_text = codes "fault: ReadFault\n"
 abbrev pub spent_text : List ℕ
 spent_text = codes "fault: Spent\n"
 
--- what follows `frontier:`: nothing where there are no identifiers, else a space and their list
-abbrev pub frontier_text : List (List ℕ) → List ℕ
-frontier_text [] = []
-frontier_text (id ∷ ids) = codes " " ++ spelled_ids (id ∷ ids)
-
 -- the lines for a history: the number of its versions, its frontier, the number of characters of its text, its digest in
 -- hexadecimal digits, and the text
 abbrev pub history_text : List UpdateView → List ℕ
 history_text H =
-    codes "versions: " ++ decimal (length H)
-    ++ codes "\nfrontier:" ++ frontier_text (frontier_of (graph_of H))
-    ++ codes "\nlength: " ++ decimal (length (text_of H))
-    ++ codes "\ndigest: " ++ encode_lower (digest_at H)
-    ++ codes "\ntext:\n" ++ encode_utf8_all (text_of H) ++ codes "\n"
+    line_with (codes "versions: ") (decimal (length H))
+    ++ (line_with (codes "frontier:") (frontier_said (frontier_of (graph_of H)))
+    ++ content_lines (text_of H) (digest_at H))
 
 -- how reading ended: with what the bytes show, at the source's end, at a read that failed, or at the limit
 pub data Ending : Type 0 where

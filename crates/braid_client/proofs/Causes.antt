@@ -19,7 +19,8 @@ use Rattle.braid_client.specs.declared.command.Command.TheVariants.{New, Edit, S
 use Rattle.braid_client.specs.declared.fault.Fault.{Fault}
 use Rattle.braid_client.specs.declared.fault.Fault.TheVariants as faults
 use Rattle.braid_client.specs.declared.report.Report.{Report}
-use Rattle.braid_client.specs.Texts.{fault_line, fault_name, fault_status, end_text, end_status, new_text, wrote_text, show_text, synced_text, followed_text}
+use Rattle.braid_lines.specs.Lines.{fault_line}
+use Rattle.braid_client.specs.Texts.{fault_name, fault_status, end_text, end_status, new_text, wrote_text, show_text, synced_text, followed_text}
 use Rattle.braid_lines.specs.Prints.{IsPrinted}
 use Rattle.braid_client.specs.Runs.{Setting, done_with, LacksReplica, MakesState, new_unloaded, new_exists, new_unkept, new_made, new_unaided, WritesChange, write_lacking, write_refused, write_unkept, written, write_unaided, ShowsState, show_lacking, shown, show_unaided, RunsSync, sync_lacking, sync_unkept, sync_ended, sync_unbegun, sync_unaided, RunsFollow, follow_lacking, follow_unkept, follow_unprinted, follow_ended, follow_unbegun, follow_unaided, Carries, CarriesWords, Faults, GivesUp, Finishes}
 use Rattle.braid_client.specs.Laws.{SomeRose, OutsideRose, LoadFaultRose, SaveFaultRose, OnlyUsage, NoFormIsUsage, KeepsNone}

@@ -11,7 +11,8 @@ use Rattle.braid_graph.proofs.Kept.{take_next}
 use Rattle.braid_text.specs.declared.room.Room.{Room}
 use Rattle.braid_outbox.specs.Replicas.{ReplicaView, all_of}
 use Rattle.braid_outbox.specs.Writes.{additions, is_written, write, with_unsent}
-use Rattle.braid_client.specs.Texts.{wrote_text, line_with}
+use Rattle.braid_lines.specs.Lines.{line_with}
+use Rattle.braid_client.specs.Texts.{wrote_text}
 
 pub one_more : {A : Type 0} (xs : List A) (from n : ℕ) (x : A) → from ≤ n → slice_get xs n ≡ Some x → drop from (take (n + 1) xs) ≡ drop from (take n xs) ++ x ∷ []
 one_more xs from n x l e =

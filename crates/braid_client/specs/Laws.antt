@@ -27,7 +27,8 @@ use Rattle.braid_sync.specs.Follows.{Follows}
 use Rattle.braid_sync.specs.Learning.{Learns}
 use Rattle.braid_sync.specs.Laws.{IsSubscriptionOf, GainedOne, NoneFailed}
 use Rattle.braid_client.specs.Forms.{IsForm, HasNoForm}
-use Rattle.braid_client.specs.Texts.{fault_line, fault_name}
+use Rattle.braid_lines.specs.Lines.{fault_line}
+use Rattle.braid_client.specs.Texts.{fault_name}
 use Rattle.braid_client.specs.Runs.{Setting, ClientRuns, state_of, range_change}
 
 -- Words are a form of one command at most.

@@ -34,7 +34,8 @@ use Rattle.braid_client.specs.declared.report.Report.{Report}
 use Rattle.braid_sync.specs.Syncs.{Syncs}
 use Rattle.braid_sync.specs.Follows.{Follows}
 use Rattle.braid_client.specs.Forms.{IsForm, HasNoForm}
-use Rattle.braid_client.specs.Texts.{fault_line, fault_name, fault_status, end_text, end_status, new_text, wrote_text, show_text, synced_text, followed_text}
+use Rattle.braid_lines.specs.Lines.{fault_line}
+use Rattle.braid_client.specs.Texts.{fault_name, fault_status, end_text, end_status, new_text, wrote_text, show_text, synced_text, followed_text}
 
 -- the state of a replica for a text at a place
 abbrev pub state_of : Place → ReplicaView → State

@@ -24,7 +24,8 @@ use Rattle.braid_client.specs.declared.fault.Fault.TheVariants as faults
 use Rattle.braid_client.specs.declared.keeping.Kept.{Kept}
 use Rattle.braid_sync.specs.Opening.{IsPlace}
 use Rattle.braid_client.specs.Forms.{Asks, HasNoForm}
-use Rattle.braid_client.specs.Texts.{fault_line, fault_name}
+use Rattle.braid_lines.specs.Lines.{fault_line}
+use Rattle.braid_client.specs.Texts.{fault_name}
 use Rattle.braid_client.specs.Runs.{state_of, HasReplica, LacksReplica, KeepsState, FailsToKeep}
 
 -- what words ask for was found, or they ask for nothing

@@ -1,18 +1,15 @@
 -- What the client's commands print: the line of each fault and of each end, the text of each success, and the statuses.
-use Rattle.std.specs.Prelude.{ℕ, List, [], ◌∷◌, ◌++◌, length, codes, decimal, flat_map, encode_utf8_all}
-use Rattle.hex.specs.Hex.{encode_lower}
-use Rattle.braid_ids.specs.Identifiers.{spelled_id, spelled_ids}
+use Rattle.std.specs.Prelude.{ℕ, List, [], ◌++◌, length, codes, decimal, flat_map}
+use Rattle.braid_ids.specs.Identifiers.{spelled_id}
 use Rattle.braid_io.specs.declared.status.Status.{Status}
 use Rattle.braid_io.specs.declared.status.Status.TheVariants as statuses
 use Rattle.braid_change.specs.Updates.{UpdateView}
 use Rattle.braid_change.specs.declared.update.BuildFault.{BuildFault}
 use Rattle.braid_change.specs.declared.update.BuildFault.TheVariants.{TooManyParents, TooManyPatches, Backwards, Overlap, TooLong}
-use Rattle.braid_fields.specs.Reasons.{reason_name}
 use Rattle.braid_http.specs.Replies.{refusal_name}
 use Rattle.braid_text.specs.Histories.{text_of}
 use Rattle.braid_text.specs.Digested.{digest_at}
-use Rattle.braid_text.specs.Rooms.{which_name}
-use Rattle.braid_text.specs.declared.room.Which.{Which}
+use Rattle.braid_lines.specs.Lines.{line_with, fault_line, stream_name, range_name, full_name, frontier_said, content_lines}
 use Rattle.braid_outbox.specs.declared.faults.WriteFault.{WriteFault}
 use Rattle.braid_outbox.specs.declared.faults.WriteFault.TheVariants as writes
 use Rattle.braid_outbox.specs.Replicas.{ReplicaView, all_of, frontier}
@@ -21,10 +18,6 @@ use Rattle.braid_sync.specs.declared.end.SyncEnd.TheVariants as ends
 use Rattle.braid_client.specs.declared.fault.Fault.{Fault}
 use Rattle.braid_client.specs.declared.fault.Fault.TheVariants as faults
 
--- the line for a fault of this name
-abbrev pub fault_line : List ℕ → List ℕ
-fault_line name = codes "fault: " ++ (name ++ codes "\n")
-
 -- the name of a fault of a change's shape
 abbrev pub build_name : BuildFault → List ℕ
 build_name (TooManyParents n) = codes "TooManyParents"
@@ -32,14 +25,6 @@ build_name (TooManyPatches n) = codes "TooManyPatches"
 build_name (Backwards patch) = codes "Backwards"
 build_name (Overlap patch) = codes "Overlap"
 build_name (TooLong bytes) = codes "TooLong"
-
--- a patch that ends past the text, and the text's length
-abbrev pub range_name : ℕ → ℕ → List ℕ
-range_name patch len = codes "OutOfRange patch " ++ (decimal patch ++ (codes " len " ++ decimal len))
-
--- a limit that would be passed
-abbrev pub full_name : Which → ℕ → List ℕ
-full_name which limit = codes "Full " ++ (which_name which ++ (codes " " ++ decimal limit))
 
 -- why a change is not written
 abbrev pub write_name : WriteFault → List ℕ
@@ -82,7 +67,7 @@ end_name (ends.BadHead refusal) = refusal_name refusal
 end_name ends.NoCurrent = codes "NoCurrent"
 end_name ends.BadCurrent = codes "BadCurrent"
 end_name ends.OtherMergeType = codes "OtherMergeType"
-end_name (ends.BadStream f) = reason_name f.reason ++ (codes " at " ++ decimal f.at)
+end_name (ends.BadStream f) = stream_name f
 end_name (ends.Clash v) = codes "Clash " ++ spelled_id v
 end_name (ends.UnknownParent v) = codes "UnknownParent " ++ spelled_id v
 end_name (ends.OutOfRange patch len) = range_name patch len
@@ -115,10 +100,6 @@ end_status ends.OutFault = statuses.Outside
 end_status ends.Memory = statuses.Memory
 end_status end = statuses.Bad
 
--- the line of a name and what it is said of
-abbrev pub line_with : List ℕ → List ℕ → List ℕ
-line_with name said = name ++ (said ++ codes "\n")
-
 -- what `new` prints
 abbrev pub new_text : List ℕ → List ℕ
 new_text agent = line_with (codes "agent: ") agent
@@ -127,18 +108,9 @@ new_text agent = line_with (codes "agent: ") agent
 abbrev pub wrote_text : List UpdateView → List ℕ
 wrote_text us = flat_map (λ (u : UpdateView). line_with (codes "wrote: ") (spelled_id u.id)) us
 
--- what stands behind `frontier:`: nothing where there are no identifiers, else a space and their list
-abbrev pub frontier_said : List (List ℕ) → List ℕ
-frontier_said [] = []
-frontier_said (v ∷ vs) = codes " " ++ spelled_ids (v ∷ vs)
-
--- the last lines of `show`: the number of characters of a replica's text, its digest in hexadecimal digits, and the
--- text
+-- the last lines of `show`: what is read of all updates of a replica
 abbrev pub content_text : ReplicaView → List ℕ
-content_text r =
-    line_with (codes "length: ") (decimal (length (text_of (all_of r))))
-    ++ (line_with (codes "digest: ") (encode_lower (digest_at (all_of r)))
-    ++ line_with (codes "text:\n") (encode_utf8_all (text_of (all_of r))))
+content_text r = content_lines (text_of (all_of r)) (digest_at (all_of r))
 
 -- what `show` prints of a replica of a text at this path, its unsent updates among the others
 abbrev pub show_text : List ℕ → ReplicaView → List ℕ

@@ -1,17 +1,14 @@
 //! What is printed at the end of a sync or a follow.
 
-ghost use Rattle.std.specs.Prelude.{◌≡◌, ◌++◌, [], codes, decimal, IfOk};
-ghost use Rattle.braid_ids.specs.Identifiers.{spelled_id};
-ghost use Rattle.braid_fields.specs.Reasons.{reason_name};
-ghost use Rattle.braid_client.specs.Texts.{fault_line, end_text, end_status};
+ghost use Rattle.std.specs.Prelude.{◌≡◌, [], IfOk};
+ghost use Rattle.braid_client.specs.Texts.{end_text, end_status};
 ghost use Rattle.braid_client.specs.Steps.{single_name};
 ghost use Rattle.braid_client.specs.Runs.{ended_with};
 
-use crate::lines::{fault_line, full_line, numbered_line, range_line};
 use crate::report::Report;
-use braid_frame::FrameFault;
-use braid_ids::{Bytes, Id, Memory};
+use braid_ids::{Bytes, Memory};
 use braid_io::Status;
+use braid_lines::{fault_line, full_line, id_line, numbered_line, range_line, stream_line};
 use braid_sync::SyncEnd;
 use std::alloc::Global;
 
@@ -87,28 +84,4 @@ fn end_status(end: &SyncEnd) -> Status
         | SyncEnd::OutOfRange { .. }
         | SyncEnd::Full { .. } => Status::Bad,
     }
-}
-
-/// The line for a fault of a stream.
-fn stream_line(alloc: Global, fault: &FrameFault) -> Result<Bytes, Memory>
-    ensures ok { IfOk result (λ line. line ≡ fault_line (reason_name fault.now.reason
-        ++ (codes " at " ++ decimal fault.now.at))) }
-{
-    let mut line = Bytes::of(alloc, b"fault: ")?;
-    line.push(fault.reason.name().as_bytes())?;
-    line.push(b" at ")?;
-    line.push_number(fault.at)?;
-    line.push(b"\n")?;
-    Ok(line)
-}
-
-/// The line for an update of this name.
-fn id_line(alloc: Global, name: &[u8], id: &Id) -> Result<Bytes, Memory>
-    ensures ok { IfOk result (λ line. line ≡ fault_line (name.now ++ spelled_id id.now)) }
-{
-    let mut line = Bytes::of(alloc, b"fault: ")?;
-    line.push(name)?;
-    line.push(id.spell(alloc)?.get())?;
-    line.push(b"\n")?;
-    Ok(line)
 }

@@ -1,10 +1,10 @@
 //! The lines of a drill.
 
-ghost use Rattle.std.specs.Prelude.{◌≡◌, ◌++◌, IfOk, OnOk, codes, decimal};
-ghost use Rattle.hex.specs.Hex.{encode_lower};
+ghost use Rattle.std.specs.Prelude.{◌≡◌, IfOk};
 ghost use Rattle.braid_drill.specs.Lines.{summary_text};
 
 use braid_ids::{Bytes, Memory};
+use braid_lines::{push_count, push_digest};
 use std::alloc::Global;
 
 /// What has become of a drill.
@@ -31,23 +31,4 @@ pub(crate) fn summary_text(alloc: Global, rounds: u32, summary: &Summary) -> Res
     push_count(&mut text, b"equal: ", summary.equal as u64)?;
     push_digest(alloc, &mut text, &summary.digest)?;
     Ok(text)
-}
-
-/// Puts a line with a number at the end.
-fn push_count(text: &mut Bytes, name: &[u8], n: u64) -> Result<(), Memory>
-    ensures ok { OnOk result (text.new ≡ text.old ++ (name.now ++ (decimal n ++ codes "\n"))) }
-{
-    text.push(name)?;
-    text.push_number(n)?;
-    text.push(b"\n")
-}
-
-/// Puts the line with the digest at the end.
-fn push_digest(alloc: Global, text: &mut Bytes, digest: &[u8; 32]) -> Result<(), Memory>
-    ensures ok { OnOk result (text.new ≡ text.old ++ (codes "digest: " ++ (encode_lower digest.now ++ codes "\n"))) }
-{
-    let digits = hex::encode(alloc, *digest)?;
-    text.push(b"digest: ")?;
-    text.push(digits.as_bytes())?;
-    text.push(b"\n")
 }
