@@ -20,8 +20,8 @@ pub fn each_once()
         → history_of (us ++ u ∷ []) ≡ history_of us }
 {}
 
-/// No updates are accepted ones; and with one more they are accepted exactly where those before it are, and the answer to
-/// it is that it is new or known.
+/// No updates are accepted ones; and with one more they are accepted exactly where those before it are, and the answer
+/// to it is that it is new or known.
 pub fn accepted_one_by_one()
     ensures none { AreAccepted [] }
     ensures more { (us : List UpdateView) (u : UpdateView)
@@ -60,8 +60,8 @@ pub fn found_decides()
         → IsCheckText found bytes status text → IsCheckText found (bytes ++ more) status text }
 {}
 
-/// Bytes show such a fault or such an update, or neither, and never both. Where they show neither, and are all there are, they
-/// have a status and a text.
+/// Bytes show such a fault or such an update, or neither, and never both. Where they show neither, and are all there
+/// are, they have a status and a text.
 pub fn found_or_not()
     ensures either { (bytes : List ℕ) → ((text : List ℕ) × IsFound bytes text) ⊎ ShowNothing bytes }
     ensures apart { (bytes text : List ℕ) → IsFound bytes text → ¬ ShowNothing bytes }

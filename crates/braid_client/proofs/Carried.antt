@@ -14,11 +14,11 @@ use Rattle.braid_client.specs.declared.fault.Fault.{Fault}
 use Rattle.braid_client.specs.declared.fault.Fault.TheVariants as faults
 use Rattle.braid_client.specs.declared.report.Report.{Report}
 use Rattle.braid_client.specs.Forms.{Asks, IsForm}
-use Rattle.braid_client.specs.Runs.{Setting, setting, MakesState, WritesChange, write_unaided, ShowsState, RunsSync, RunsFollow, Carries, CarriesWords, words_no_form, words_unaided, range_change}
+use Rattle.braid_client.specs.Runs.{Setting, setting, MakesState, WritesChange, write_unaided, ShowsState, RunsSync, RunsFollow, CarriesOut, CarriesOutWords, words_no_form, words_unaided, range_change}
 use Rattle.braid_client.specs.Steps.{IsWordsFault, IsPlaced}
 
 -- words that were not read
-unread : (words : List (List ℕ)) (fault : Fault) (old : Setting) → IsWordsFault words fault → CarriesWords words old old (Err fault)
+unread : (words : List (List ℕ)) (fault : Fault) (old : Setting) → IsWordsFault words fault → CarriesOutWords words old old (Err fault)
 unread words faults.Usage old h = words_no_form h refl
 unread words faults.NoState old h = absurd h
 unread words faults.Exists old h = absurd h
@@ -29,8 +29,8 @@ unread words faults.LoadFault old h = absurd h
 unread words faults.SaveFault old h = absurd h
 unread words faults.Memory old h = words_unaided refl
 
-pub words_lost : (words : List (List ℕ)) (fault given : Fault) (result : Result Report Fault) (old : Setting) → result ≡ Err given → given ≡ fault → IsWordsFault words fault → CarriesWords words old old result
-words_lost words fault given result old r e h = subst (CarriesWords words old old) (sym (r ∙ ap (λ (f : Fault). Err f) e)) (unread words fault old h)
+pub words_lost : (words : List (List ℕ)) (fault given : Fault) (result : Result Report Fault) (old : Setting) → result ≡ Err given → given ≡ fault → IsWordsFault words fault → CarriesOutWords words old old result
+words_lost words fault given result old r e h = subst (CarriesOutWords words old old) (sym (r ∙ ap (λ (f : Fault). Err f) e)) (unread words fault old h)
 
 -- a place that is asked for is one
 placed : (own : List ℕ) (rest : List (List ℕ)) (command : Command) → Asks own rest command → IsPlaced command
@@ -57,24 +57,24 @@ body_counted text = omega arith
 
 -- each command, of a setting whose other parts stay as they are
 module _ (name : List ℕ) (command : Command) (result : Result Report Fault) (old new : Keeping) (dialing : Dialing) where
-  pub made : (agent : List ℕ) (place : Place) (outflow : Outflow) → command ≡ New agent place → MakesState name place agent old new result → Carries name command result (setting old dialing outflow) (setting new dialing outflow)
-  made agent place outflow is h = subst (λ (c : Command). Carries name c result (setting old dialing outflow) (setting new dialing outflow)) (sym is) (refl, h)
+  pub made : (agent : List ℕ) (place : Place) (outflow : Outflow) → command ≡ New agent place → MakesState name place agent old new result → CarriesOut name command result (setting old dialing outflow) (setting new dialing outflow)
+  made agent place outflow is h = subst (λ (c : Command). CarriesOut name c result (setting old dialing outflow) (setting new dialing outflow)) (sym is) (refl, h)
 
-  pub edited : (start end : ℕ) (text : List ℕ) (change : Change) (outflow : Outflow) → command ≡ Edit start end text → change ≡ range_change start end text → WritesChange name change old new result → Carries name command result (setting old dialing outflow) (setting new dialing outflow)
-  edited start end text change outflow is e h = subst (λ (c : Command). Carries name c result (setting old dialing outflow) (setting new dialing outflow)) (sym is) (refl, subst (λ (c : Change). WritesChange name c old new result) e h)
+  pub edited : (start end : ℕ) (text : List ℕ) (change : Change) (outflow : Outflow) → command ≡ Edit start end text → change ≡ range_change start end text → WritesChange name change old new result → CarriesOut name command result (setting old dialing outflow) (setting new dialing outflow)
+  edited start end text change outflow is e h = subst (λ (c : Command). CarriesOut name c result (setting old dialing outflow) (setting new dialing outflow)) (sym is) (refl, subst (λ (c : Change). WritesChange name c old new result) e h)
 
-  pub replaced : (text : List ℕ) (outflow : Outflow) → command ≡ Set text → WritesChange name (Body text) old new result → Carries name command result (setting old dialing outflow) (setting new dialing outflow)
-  replaced text outflow is h = subst (λ (c : Command). Carries name c result (setting old dialing outflow) (setting new dialing outflow)) (sym is) (refl, h)
+  pub replaced : (text : List ℕ) (outflow : Outflow) → command ≡ Set text → WritesChange name (Body text) old new result → CarriesOut name command result (setting old dialing outflow) (setting new dialing outflow)
+  replaced text outflow is h = subst (λ (c : Command). CarriesOut name c result (setting old dialing outflow) (setting new dialing outflow)) (sym is) (refl, h)
 
-  pub displayed : (outflow : Outflow) → command ≡ Show → ShowsState name old new result → Carries name command result (setting old dialing outflow) (setting new dialing outflow)
-  displayed outflow is h = subst (λ (c : Command). Carries name c result (setting old dialing outflow) (setting new dialing outflow)) (sym is) (refl, h)
+  pub displayed : (outflow : Outflow) → command ≡ Show → ShowsState name old new result → CarriesOut name command result (setting old dialing outflow) (setting new dialing outflow)
+  displayed outflow is h = subst (λ (c : Command). CarriesOut name c result (setting old dialing outflow) (setting new dialing outflow)) (sym is) (refl, h)
 
-  pub synced : (dialed : Dialing) (outflow : Outflow) → command ≡ Sync → RunsSync name old new dialing dialed result → Carries name command result (setting old dialing outflow) (setting new dialed outflow)
-  synced dialed outflow is h = subst (λ (c : Command). Carries name c result (setting old dialing outflow) (setting new dialed outflow)) (sym is) (refl, h)
+  pub synced : (dialed : Dialing) (outflow : Outflow) → command ≡ Sync → RunsSync name old new dialing dialed result → CarriesOut name command result (setting old dialing outflow) (setting new dialed outflow)
+  synced dialed outflow is h = subst (λ (c : Command). CarriesOut name c result (setting old dialing outflow) (setting new dialed outflow)) (sym is) (refl, h)
 
-  pub followed : (count : ℕ) (dialed : Dialing) (out printed : Outflow) → command ≡ Follow count → RunsFollow name count old new dialing dialed out printed result → Carries name command result (setting old dialing out) (setting new dialed printed)
-  followed count dialed out printed is h = subst (λ (c : Command). Carries name c result (setting old dialing out) (setting new dialed printed)) (sym is) h
+  pub followed : (count : ℕ) (dialed : Dialing) (out printed : Outflow) → command ≡ Follow count → RunsFollow name count old new dialing dialed out printed result → CarriesOut name command result (setting old dialing out) (setting new dialed printed)
+  followed count dialed out printed is h = subst (λ (c : Command). CarriesOut name c result (setting old dialing out) (setting new dialed printed)) (sym is) h
 
 -- a change for which there was no memory
-pub unedited : (name : List ℕ) (start end : ℕ) (text : List ℕ) (command : Command) (fault : Fault) (result : Result Report Fault) (old : Setting) → command ≡ Edit start end text → result ≡ Err fault → fault ≡ faults.Memory → Carries name command result old old
-unedited name start end text command fault result old is r e = subst (λ (c : Command). Carries name c result old old) (sym is) (refl, subst (WritesChange name (range_change start end text) old.keeping old.keeping) (sym (r ∙ ap (λ (f : Fault). Err f) e)) (write_unaided refl))
+pub unedited : (name : List ℕ) (start end : ℕ) (text : List ℕ) (command : Command) (fault : Fault) (result : Result Report Fault) (old : Setting) → command ≡ Edit start end text → result ≡ Err fault → fault ≡ faults.Memory → CarriesOut name command result old old
+unedited name start end text command fault result old is r e = subst (λ (c : Command). CarriesOut name c result old old) (sym is) (refl, subst (WritesChange name (range_change start end text) old.keeping old.keeping) (sym (r ∙ ap (λ (f : Fault). Err f) e)) (write_unaided refl))

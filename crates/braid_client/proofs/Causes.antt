@@ -22,7 +22,7 @@ use Rattle.braid_client.specs.declared.report.Report.{Report}
 use Rattle.braid_lines.specs.Lines.{fault_line}
 use Rattle.braid_client.specs.Texts.{fault_name, fault_status, end_text, end_status, new_text, wrote_text, show_text, synced_text, followed_text}
 use Rattle.braid_lines.specs.Prints.{IsPrinted}
-use Rattle.braid_client.specs.Runs.{Setting, done_with, LacksReplica, MakesState, new_unloaded, new_exists, new_unkept, new_made, new_unaided, WritesChange, write_lacking, write_refused, write_unkept, written, write_unaided, ShowsState, show_lacking, shown, show_unaided, RunsSync, sync_lacking, sync_unkept, sync_ended, sync_unbegun, sync_unaided, RunsFollow, follow_lacking, follow_unkept, follow_unprinted, follow_ended, follow_unbegun, follow_unaided, Carries, CarriesWords, Faults, GivesUp, Finishes}
+use Rattle.braid_client.specs.Runs.{Setting, done_with, LacksReplica, MakesState, new_unloaded, new_exists, new_unkept, new_made, new_unaided, WritesChange, write_lacking, write_refused, write_unkept, written, write_unaided, ShowsState, show_lacking, shown, show_unaided, RunsSync, sync_lacking, sync_unkept, sync_ended, sync_unbegun, sync_unaided, RunsFollow, follow_lacking, follow_unkept, follow_unprinted, follow_ended, follow_unbegun, follow_unaided, CarriesOut, CarriesOutWords, Faults, GivesUp, Finishes}
 use Rattle.braid_client.specs.Laws.{SomeRose, OutsideRose, LoadFaultRose, SaveFaultRose, OnlyUsage, NoFormIsUsage, KeepsNone}
 use Rattle.braid_client.proofs.Counts.{rose_after, rose_before, carried_as, part_rose, words_up, finishes_up}
 use Rattle.braid_client.proofs.OneTalk.{out_line}
@@ -174,7 +174,7 @@ follows_tells name count old new _ (follow_ended place q followed h n k) =
 follows_tells name count old new _ (follow_unbegun e d p) = e
 follows_tells name count old new _ (follow_unaided place q followed h e) = e
 
-pub carries_tells : (name : List ℕ) (command : Command) (x : Result Report Fault) (old new : Setting) → Carries name command x old new → Tells x old new
+pub carries_tells : (name : List ℕ) (command : Command) (x : Result Report Fault) (old new : Setting) → CarriesOut name command x old new → Tells x old new
 carries_tells name (New agent place) x old new h = makes_tells name place agent old new x h.1
 carries_tells name (Edit start end text) x old new h = writes_tells name _ old new x h.1
 carries_tells name (Set text) x old new h = writes_tells name _ old new x h.1
@@ -201,7 +201,7 @@ outer_from (Err (faults.BadEntry n)) old new t = tt
 outer_from (Err (faults.Write f)) old new t = tt
 outer_from (Err faults.Memory) old new t = tt
 
-words_outer : (words : List (List ℕ)) (x : Result Report Fault) (old new : Setting) → CarriesWords words old new x → Outer x old new
+words_outer : (words : List (List ℕ)) (x : Result Report Fault) (old new : Setting) → CarriesOutWords words old new x → Outer x old new
 words_outer words x old new h = elim (carried_as words old new x h) [
   | inl k ↦ subst (λ (z : Result Report Fault). Outer z old new) (sym k.0) tt
   | inr (inl k) ↦ subst (λ (z : Result Report Fault). Outer z old new) (sym k.0) tt
@@ -252,14 +252,14 @@ outside_rose words old new run = go run.result (words_outer words run.result old
     go (Err (faults.Write f)) t h = told (faults.Write f) (λ e. cc) h
     go (Err faults.Memory) t h = absurd (let z = h.0 in cc)
 
-told_load : (words : List (List ℕ)) (old new : Setting) → CarriesWords words old new (Err faults.LoadFault) → Rose old.keeping.load_faults new.keeping.load_faults
+told_load : (words : List (List ℕ)) (old new : Setting) → CarriesOutWords words old new (Err faults.LoadFault) → Rose old.keeping.load_faults new.keeping.load_faults
 told_load words old new h = elim (carried_as words old new (Err faults.LoadFault) h) [
   | inl k ↦ absurd (let z = k.0 in cc)
   | inr (inl k) ↦ absurd (let z = k.0 in cc)
   | inr (inr k) ↦ carries_tells k.0 k.1 (Err faults.LoadFault) old new k.3
 ]
 
-told_save : (words : List (List ℕ)) (old new : Setting) → CarriesWords words old new (Err faults.SaveFault) → Rose old.keeping.save_faults new.keeping.save_faults
+told_save : (words : List (List ℕ)) (old new : Setting) → CarriesOutWords words old new (Err faults.SaveFault) → Rose old.keeping.save_faults new.keeping.save_faults
 told_save words old new h = elim (carried_as words old new (Err faults.SaveFault) h) [
   | inl k ↦ absurd (let z = k.0 in cc)
   | inr (inl k) ↦ absurd (let z = k.0 in cc)
@@ -267,10 +267,10 @@ told_save words old new h = elim (carried_as words old new (Err faults.SaveFault
 ]
 
 pub load_fault_rose : LoadFaultRose
-load_fault_rose words status old new run e = told_load words old (record new { outflow = run.before }) (subst (CarriesWords words old (record new { outflow = run.before })) e run.carries)
+load_fault_rose words status old new run e = told_load words old (record new { outflow = run.before }) (subst (CarriesOutWords words old (record new { outflow = run.before })) e run.carries)
 
 pub save_fault_rose : SaveFaultRose
-save_fault_rose words status old new run e = told_save words old (record new { outflow = run.before }) (subst (CarriesWords words old (record new { outflow = run.before })) e run.carries)
+save_fault_rose words status old new run e = told_save words old (record new { outflow = run.before }) (subst (CarriesOutWords words old (record new { outflow = run.before })) e run.carries)
 
 -- words of no form, told in one line
 usage_was : (x : Result Report Fault) (before after : Outflow) → ((report : Report) → x ≡ Ok report → report.status ≡ Usage → ⊥) → Finishes x Usage before after → (x ≡ Err faults.Usage) × WritesAll (fault_line (fault_name faults.Usage)) before after
@@ -294,7 +294,7 @@ not_both x report f e k = cc
 one_fault : (x : Result Report Fault) → x ≡ Err faults.Usage → x ≡ Err faults.Memory → ⊥
 one_fault x e k = cc
 
-no_usage : (words : List (List ℕ)) (x : Result Report Fault) (old new : Setting) → CarriesWords words old new x → (report : Report) → x ≡ Ok report → report.status ≡ Usage → ⊥
+no_usage : (words : List (List ℕ)) (x : Result Report Fault) (old new : Setting) → CarriesOutWords words old new x → (report : Report) → x ≡ Ok report → report.status ≡ Usage → ⊥
 no_usage words x old new h report e u = elim (carried_as words old new x h) [
   | inl k ↦ not_both x report faults.Usage e k.0
   | inr (inl k) ↦ not_both x report faults.Memory e k.0

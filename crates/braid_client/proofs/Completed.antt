@@ -23,7 +23,7 @@ use Rattle.braid_client.specs.declared.fault.Fault.{Fault}
 use Rattle.braid_client.specs.declared.report.Report.{Report}
 use Rattle.braid_client.specs.Forms.{IsForm}
 use Rattle.braid_client.specs.Texts.{end_status}
-use Rattle.braid_client.specs.Runs.{Setting, MakesState, new_unloaded, new_exists, new_unkept, new_made, new_unaided, WritesChange, write_lacking, write_refused, write_unkept, written, write_unaided, ShowsState, show_lacking, shown, show_unaided, RunsSync, sync_lacking, sync_unkept, sync_ended, sync_unbegun, sync_unaided, RunsFollow, follow_lacking, follow_unkept, follow_unprinted, follow_ended, follow_unbegun, follow_unaided, Carries, Finishes}
+use Rattle.braid_client.specs.Runs.{Setting, MakesState, new_unloaded, new_exists, new_unkept, new_made, new_unaided, WritesChange, write_lacking, write_refused, write_unkept, written, write_unaided, ShowsState, show_lacking, shown, show_unaided, RunsSync, sync_lacking, sync_unkept, sync_ended, sync_unbegun, sync_unaided, RunsFollow, follow_lacking, follow_unkept, follow_unprinted, follow_ended, follow_unbegun, follow_unaided, CarriesOut, Finishes}
 use Rattle.braid_client.specs.Laws.{SomeRose, IsReplicaOf, CanWrite, IsWell, IsFree, Completes, FollowIsFree}
 use Rattle.braid_client.proofs.Unwritten.{written_faultless}
 use Rattle.braid_client.proofs.Found.{held_is, has_or_lacks, has_one, has_found, lacks_found}
@@ -99,7 +99,7 @@ module _ (name : List ℕ) (kept : Kept) (old new : Setting) (told : old.keeping
   good_follow count printed _ place r has free quiet (follow_unbegun e d p) = inl refl
   good_follow count printed _ place r has free quiet (follow_unaided there q followed h e) = inl refl
 
-good_command : (name : List ℕ) (command : Command) (kept : Kept) (old mid : Setting) (x : Result Report Fault) → old.keeping.kept ≡ Some kept → (SomeRose old mid → ⊥) → IsFree command (map.get kept name) old mid → Carries name command x old mid → IsGood x
+good_command : (name : List ℕ) (command : Command) (kept : Kept) (old mid : Setting) (x : Result Report Fault) → old.keeping.kept ≡ Some kept → (SomeRose old mid → ⊥) → IsFree command (map.get kept name) old mid → CarriesOut name command x old mid → IsGood x
 good_command name (New agent place) kept old mid x told calm free h = good_new name kept old mid told calm place agent x free h.1
 good_command name (Edit start end text) kept old mid x told calm free h = good_write name kept old mid told calm _ x free h.1
 good_command name (Set text) kept old mid x told calm free h = good_write name kept old mid told calm _ x free h.1
@@ -129,13 +129,13 @@ completes words name command kept status old new form told free run calm = elim 
     behind : Rose run.before.faults new.outflow.faults → ⊥
     behind = calm_behind words status old new run calm
 
-    carried : (other : List ℕ) (wish : Command) → IsForm words other wish → Carries other wish run.result old mid → IsGood run.result
+    carried : (other : List ℕ) (wish : Command) → IsForm words other wish → CarriesOut other wish run.result old mid → IsGood run.result
     carried other wish f h =
         let one = one_form words other name wish command f form in
         let named : other ≡ name = one.0 in
         let same : wish ≡ command = one.1 in
-        let moved : Carries name command run.result old mid =
-        subst (λ (z : List ℕ). Carries z command run.result old mid) named (subst (λ (z : Command). Carries other z run.result old mid) same h) in
+        let moved : CarriesOut name command run.result old mid =
+        subst (λ (z : List ℕ). CarriesOut z command run.result old mid) named (subst (λ (z : Command). CarriesOut other z run.result old mid) same h) in
         good_command name command kept old mid run.result told (calm_before words status old new run calm) (free_before command (map.get kept name) old new run.before free) moved
 
 -- lines of which none failed leave the output's count

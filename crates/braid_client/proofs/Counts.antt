@@ -13,7 +13,7 @@ use Rattle.braid_client.specs.declared.fault.Fault.TheVariants as faults
 use Rattle.braid_client.specs.declared.report.Report.{Report}
 use Rattle.braid_client.specs.Forms.{IsForm, HasNoForm}
 use Rattle.braid_lines.specs.Prints.{IsPrinted}
-use Rattle.braid_client.specs.Runs.{Setting, OnlyKeeps, RunsFollow, follow_lacking, follow_unkept, follow_unprinted, follow_ended, follow_unbegun, follow_unaided, Carries, CarriesWords, words_no_form, words_unaided, words_formed, Faults, GivesUp, Finishes}
+use Rattle.braid_client.specs.Runs.{Setting, OnlyKeeps, RunsFollow, follow_lacking, follow_unkept, follow_unprinted, follow_ended, follow_unbegun, follow_unaided, CarriesOut, CarriesOutWords, words_no_form, words_unaided, words_formed, Faults, GivesUp, Finishes}
 use Rattle.braid_client.specs.Laws.{SomeRose}
 
 -- a count that rose behind another, or before it
@@ -33,9 +33,9 @@ abbrev pub Carried : List (List ℕ) → Setting → Setting → Result Report F
 Carried words old new result =
     ((result ≡ Err faults.Usage) × HasNoForm words × (new ≡ old))
     ⊎ (((result ≡ Err faults.Memory) × (new ≡ old))
-    ⊎ ((name : List ℕ) × (command : Command) × IsForm words name command × Carries name command result old new))
+    ⊎ ((name : List ℕ) × (command : Command) × IsForm words name command × CarriesOut name command result old new))
 
-pub carried_as : (words : List (List ℕ)) (old new : Setting) (result : Result Report Fault) → CarriesWords words old new result → Carried words old new result
+pub carried_as : (words : List (List ℕ)) (old new : Setting) (result : Result Report Fault) → CarriesOutWords words old new result → Carried words old new result
 carried_as words old new _ (words_no_form n e) = inl (refl, n, e)
 carried_as words old new _ (words_unaided e) = inr (inl (refl, e))
 carried_as words old new _ (words_formed name command result f h) = inr (inr (name, command, f, h))
@@ -64,7 +64,7 @@ follows_up name count old new dialing dialed out printed _ (follow_unaided place
 kept_out : (old new : Setting) → OnlyKeeps old new → old.outflow.faults ≤ new.outflow.faults
 kept_out old new h = let e = ap (λ (s : Setting). s.outflow.faults) h in omega (arith, e)
 
-carries_up : (name : List ℕ) (command : Command) (result : Result Report Fault) (old new : Setting) → Carries name command result old new → old.outflow.faults ≤ new.outflow.faults
+carries_up : (name : List ℕ) (command : Command) (result : Result Report Fault) (old new : Setting) → CarriesOut name command result old new → old.outflow.faults ≤ new.outflow.faults
 carries_up name (New agent place) result old new h = kept_out old new h.0
 carries_up name (Edit start end text) result old new h = kept_out old new h.0
 carries_up name (Set text) result old new h = kept_out old new h.0
@@ -73,7 +73,7 @@ carries_up name Sync result old new h = let e = ap (λ (o : Outflow). o.faults) 
 carries_up name (Follow count) result old new h = follows_up name count old.keeping new.keeping old.dialing new.dialing old.outflow new.outflow result h
 
 -- before the last text the output's count does not fall
-pub words_up : (words : List (List ℕ)) (old new : Setting) (result : Result Report Fault) → CarriesWords words old new result → old.outflow.faults ≤ new.outflow.faults
+pub words_up : (words : List (List ℕ)) (old new : Setting) (result : Result Report Fault) → CarriesOutWords words old new result → old.outflow.faults ≤ new.outflow.faults
 words_up words old new result h = elim (carried_as words old new result h) [
   | inl k ↦ (let e = ap (λ (s : Setting). s.outflow.faults) k.2 in omega (arith, e))
   | inr (inl k) ↦ (let e = ap (λ (s : Setting). s.outflow.faults) k.1 in omega (arith, e))

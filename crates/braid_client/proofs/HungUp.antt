@@ -7,7 +7,7 @@ use Rattle.braid_client.specs.declared.command.Command.{Command}
 use Rattle.braid_client.specs.declared.command.Command.TheVariants.{New, Edit, Set, Show, Sync, Follow}
 use Rattle.braid_client.specs.declared.fault.Fault.{Fault}
 use Rattle.braid_client.specs.declared.report.Report.{Report}
-use Rattle.braid_client.specs.Runs.{Setting, OnlyKeeps, RunsSync, sync_lacking, sync_unkept, sync_ended, sync_unbegun, sync_unaided, RunsFollow, follow_lacking, follow_unkept, follow_unprinted, follow_ended, follow_unbegun, follow_unaided, Carries, CarriesWords}
+use Rattle.braid_client.specs.Runs.{Setting, OnlyKeeps, RunsSync, sync_lacking, sync_unkept, sync_ended, sync_unbegun, sync_unaided, RunsFollow, follow_lacking, follow_unkept, follow_unprinted, follow_ended, follow_unbegun, follow_unaided, CarriesOut, CarriesOutWords}
 use Rattle.braid_client.proofs.Counts.{carried_as}
 
 abbrev AreUp : Dialing → Dialing → Type 0
@@ -34,7 +34,7 @@ follow_up name count old new dialing dialed out printed _ (follow_unaided place 
 kept_up : (old new : Setting) → OnlyKeeps old new → AreUp old.dialing new.dialing
 kept_up old new h = ap (λ (s : Setting). s.dialing.servers) h
 
-command_up : (name : List ℕ) (command : Command) (x : Result Report Fault) (old new : Setting) → Carries name command x old new → AreUp old.dialing new.dialing
+command_up : (name : List ℕ) (command : Command) (x : Result Report Fault) (old new : Setting) → CarriesOut name command x old new → AreUp old.dialing new.dialing
 command_up name (New agent place) x old new h = kept_up old new h.0
 command_up name (Edit start end text) x old new h = kept_up old new h.0
 command_up name (Set text) x old new h = kept_up old new h.0
@@ -42,7 +42,7 @@ command_up name Show x old new h = kept_up old new h.0
 command_up name Sync x old new h = sync_up name old.keeping new.keeping old.dialing new.dialing x h.1
 command_up name (Follow count) x old new h = follow_up name count old.keeping new.keeping old.dialing new.dialing old.outflow new.outflow x h
 
-pub words_hung_up : (words : List (List ℕ)) (x : Result Report Fault) (old new : Setting) → CarriesWords words old new x → AreUp old.dialing new.dialing
+pub words_hung_up : (words : List (List ℕ)) (x : Result Report Fault) (old new : Setting) → CarriesOutWords words old new x → AreUp old.dialing new.dialing
 words_hung_up words x old new h = elim (carried_as words old new x h) [
   | inl k ↦ ap (λ (s : Setting). s.dialing.servers) k.2
   | inr (inl k) ↦ ap (λ (s : Setting). s.dialing.servers) k.1

@@ -30,7 +30,7 @@ use Rattle.braid_client.specs.declared.report.Report.{Report}
 use Rattle.braid_client.specs.Forms.{Asks, IsForm}
 use Rattle.braid_client.specs.Texts.{new_text, wrote_text, show_text, synced_text, followed_text}
 use Rattle.braid_lines.specs.Prints.{IsPrinted}
-use Rattle.braid_client.specs.Runs.{Setting, first_of, KeepsState, done_with, ended_with, MakesState, new_unloaded, new_exists, new_unkept, new_made, new_unaided, WritesChange, write_lacking, write_refused, write_unkept, written, write_unaided, ShowsState, show_lacking, shown, show_unaided, RunsSync, sync_lacking, sync_unkept, sync_ended, sync_unbegun, sync_unaided, RunsFollow, follow_lacking, follow_unkept, follow_unprinted, follow_ended, follow_unbegun, follow_unaided, range_change, Carries, CarriesWords, Faults, GivesUp, Finishes, ClientRuns}
+use Rattle.braid_client.specs.Runs.{Setting, first_of, KeepsState, done_with, ended_with, MakesState, new_unloaded, new_exists, new_unkept, new_made, new_unaided, WritesChange, write_lacking, write_refused, write_unkept, written, write_unaided, ShowsState, show_lacking, shown, show_unaided, RunsSync, sync_lacking, sync_unkept, sync_ended, sync_unbegun, sync_unaided, RunsFollow, follow_lacking, follow_unkept, follow_unprinted, follow_ended, follow_unbegun, follow_unaided, range_change, CarriesOut, CarriesOutWords, Faults, GivesUp, Finishes, ClientRuns}
 use Rattle.braid_client.specs.Laws.{SomeRose, IsReplicaOf, GainsTelling, TellsLinks, OneRun}
 use Rattle.braid_client.proofs.Unwritten.{one_unwritten, written_faultless}
 use Rattle.braid_client.proofs.Found.{Lacks, held_is, lacks_one, has_or_lacks, has_one, has_found, lacks_found}
@@ -221,7 +221,7 @@ range_scalars start end text h = (h, tt)
 
 -- a command that is carried out twice
 command_one : (own : List ℕ) (rest : List (List ℕ)) (name : List ℕ) (command : Command) (kept : Kept) (old a b : Setting) (x y : Result Report Fault) → Asks own rest command → old.keeping.kept ≡ Some kept → TellsLinks command old.dialing a.dialing → b.dialing ≡ a.dialing
-    → (SomeRose old a → ⊥) → (SomeRose old b → ⊥) → NoMemory x → NoMemory y → Carries name command x old a → Carries name command y old b → (x ≡ y) × (a ≡ b)
+    → (SomeRose old a → ⊥) → (SomeRose old b → ⊥) → NoMemory x → NoMemory y → CarriesOut name command x old a → CarriesOut name command y old b → (x ≡ y) × (a ≡ b)
 command_one own rest name (New agent place) kept old a b x y asks told g d c e n m h k =
     let one = made_one name place agent kept old.keeping told a.keeping b.keeping x y
     (made_as name place agent kept old.keeping told a.keeping x (no_load old a c) (no_save old a c) n h.1)
@@ -258,7 +258,7 @@ command_one own rest name (Follow count) kept old a b x y asks told g d c e n m 
 
 -- words that are carried out twice
 words_one : (words : List (List ℕ)) (kept : Kept) (old a b : Setting) (x y : Result Report Fault) → old.keeping.kept ≡ Some kept → ((name : List ℕ) (command : Command) → IsForm words name command → TellsLinks command old.dialing a.dialing) → b.dialing ≡ a.dialing → (SomeRose old a → ⊥) → (SomeRose old b → ⊥)
-    → NoMemory x → NoMemory y → CarriesWords words old a x → CarriesWords words old b y → (x ≡ y) × (a ≡ b)
+    → NoMemory x → NoMemory y → CarriesOutWords words old a x → CarriesOutWords words old b y → (x ≡ y) × (a ≡ b)
 words_one words kept old a b x y told g d c e n m h k = elim (carried_as words old a x h) [
   | inl i ↦ elim (carried_as words old b y k) [
     | inl j ↦ (i.0 ∙ sym j.0, i.2 ∙ sym j.2)
@@ -273,12 +273,12 @@ words_one words kept old a b x y told g d c e n m h k = elim (carried_as words o
   ]
 ]
   where
-    both : (name other : List ℕ) (command wish : Command) → IsForm words name command → IsForm words other wish → Carries name command x old a → Carries other wish y old b → (x ≡ y) × (a ≡ b)
+    both : (name other : List ℕ) (command wish : Command) → IsForm words name command → IsForm words other wish → CarriesOut name command x old a → CarriesOut other wish y old b → (x ≡ y) × (a ≡ b)
     both name other command wish f o s t =
         let one = one_form words name other command wish f o in
         let named : name ≡ other = one.0 in
         let same : command ≡ wish = one.1 in
-        let moved : Carries other wish x old a = subst (λ (z : List ℕ). Carries z wish x old a) named (subst (λ (z : Command). Carries name z x old a) same s) in
+        let moved : CarriesOut other wish x old a = subst (λ (z : List ℕ). CarriesOut z wish x old a) named (subst (λ (z : Command). CarriesOut name z x old a) same s) in
         command_one o.own o.rest other wish kept old a b x y o.asks told (g other wish o) d c e n m moved t
 
 -- the last text, twice

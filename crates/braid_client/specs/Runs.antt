@@ -201,26 +201,26 @@ abbrev pub range_change : ℕ → ℕ → List ℕ → Change
 range_change start end text = Patches (range_patch start end text ∷ [])
 
 -- what a command leaves before it reports, and what it has to report
-abbrev pub Carries : List ℕ → Command → Result Report Fault → Setting → Setting → Type 0
-Carries name (New agent place) result old new =
+abbrev pub CarriesOut : List ℕ → Command → Result Report Fault → Setting → Setting → Type 0
+CarriesOut name (New agent place) result old new =
     OnlyKeeps old new × MakesState name place agent old.keeping new.keeping result
-Carries name (Edit start end text) result old new =
+CarriesOut name (Edit start end text) result old new =
     OnlyKeeps old new × WritesChange name (range_change start end text) old.keeping new.keeping result
-Carries name (Set text) result old new =
+CarriesOut name (Set text) result old new =
     OnlyKeeps old new × WritesChange name (Body text) old.keeping new.keeping result
-Carries name Show result old new = OnlyKeeps old new × ShowsState name old.keeping new.keeping result
-Carries name Sync result old new =
+CarriesOut name Show result old new = OnlyKeeps old new × ShowsState name old.keeping new.keeping result
+CarriesOut name Sync result old new =
     IsSilent old new × RunsSync name old.keeping new.keeping old.dialing new.dialing result
-Carries name (Follow count) result old new =
+CarriesOut name (Follow count) result old new =
     RunsFollow name count old.keeping new.keeping old.dialing new.dialing old.outflow new.outflow result
 
 -- The same of words. In the order of the rows: they have no form, and nothing is touched; there was no memory for them;
 -- or they have one, and its command is carried out.
-pub data CarriesWords (words : List (List ℕ)) (old new : Setting) : Result Report Fault → Type 0 where
-  words_no_form : HasNoForm words → new ≡ old → CarriesWords words old new (Err faults.Usage)
-  words_unaided : new ≡ old → CarriesWords words old new (Err faults.Memory)
+pub data CarriesOutWords (words : List (List ℕ)) (old new : Setting) : Result Report Fault → Type 0 where
+  words_no_form : HasNoForm words → new ≡ old → CarriesOutWords words old new (Err faults.Usage)
+  words_unaided : new ≡ old → CarriesOutWords words old new (Err faults.Memory)
   words_formed : (name : List ℕ) (command : Command) (result : Result Report Fault) → IsForm words name command
-      → Carries name command result old new → CarriesWords words old new result
+      → CarriesOut name command result old new → CarriesOutWords words old new result
 
 -- a fault's line was written, or a front of it
 abbrev pub Faults : Fault → Status → Outflow → Outflow → Type 0
@@ -244,5 +244,5 @@ Finishes (Err fault) status old new = Faults fault status old new
 pub record ClientRuns (words : List (List ℕ)) (status : Status) (old new : Setting) : Type 0 where
   pub result : Result Report Fault
   pub before : Outflow
-  pub carries : CarriesWords words old (record new { outflow = before }) result
+  pub carries : CarriesOutWords words old (record new { outflow = before }) result
   pub finishes : Finishes result status before new.outflow

@@ -2,7 +2,7 @@
 
 ghost use Rattle.std.specs.Prelude.{◌≡◌, IfOk};
 ghost use Rattle.braid_client.specs.Steps.{IsPlaced};
-ghost use Rattle.braid_client.specs.Runs.{Carries, CarriesWords, setting, range_change};
+ghost use Rattle.braid_client.specs.Runs.{CarriesOut, CarriesOutWords, setting, range_change};
 
 use crate::command::Command;
 use crate::fault::Fault;
@@ -16,23 +16,24 @@ use braid_io::{Dialer, Keeper, Sink};
 use std::alloc::Global;
 
 /// Carries out what words ask for, but for what is printed at last.
-pub(crate) fn carry_words<K: Keeper, D: Dialer, O: Sink>(
+pub(crate) fn carry_out_words<K: Keeper, D: Dialer, O: Sink>(
     alloc: Global,
     words: &[Word],
     keeper: &mut K,
     dialer: &mut D,
     out: &mut O,
 ) -> Result<Report, Fault>
-    ensures carries { CarriesWords words.now (setting (K.keeping keeper.old) (D.dialing dialer.old) (O.outflow out.old))
+    ensures carries { CarriesOutWords words.now
+        (setting (K.keeping keeper.old) (D.dialing dialer.old) (O.outflow out.old))
         (setting (K.keeping keeper.new) (D.dialing dialer.new) (O.outflow out.new)) result }
     ensures kept { O.beside_writes out.new ≡ O.beside_writes out.old }
 {
     let (name, command) = read_words(alloc, words)?;
-    carry(alloc, name, command, keeper, dialer, out)
+    carry_out(alloc, name, command, keeper, dialer, out)
 }
 
 /// Carries out a command on the state of this name, but for what is printed at last.
-fn carry<K: Keeper, D: Dialer, O: Sink>(
+fn carry_out<K: Keeper, D: Dialer, O: Sink>(
     alloc: Global,
     name: &Word,
     command: Command,
@@ -41,7 +42,7 @@ fn carry<K: Keeper, D: Dialer, O: Sink>(
     out: &mut O,
 ) -> Result<Report, Fault>
     requires placed { IsPlaced command }
-    ensures carries { Carries name.now command result
+    ensures carries { CarriesOut name.now command result
         (setting (K.keeping keeper.old) (D.dialing dialer.old) (O.outflow out.old))
         (setting (K.keeping keeper.new) (D.dialing dialer.new) (O.outflow out.new)) }
     ensures kept { O.beside_writes out.new ≡ O.beside_writes out.old }

@@ -3,7 +3,7 @@
 ghost use Rattle.std.specs.Prelude.{◌≡◌, Err};
 ghost use Rattle.braid_client.specs.Runs.{ClientRuns, Finishes, setting};
 
-use crate::carrying::carry_words;
+use crate::carrying::carry_out_words;
 use crate::fault::Fault;
 use crate::lines::{detailed_line, plain_line};
 use crate::report::Report;
@@ -41,7 +41,7 @@ pub fn client_run<K: Keeper, D: Dialer, O: Sink>(
     ensures hung_up { (D.dialing dialer.new).servers ≡ (D.dialing dialer.old).servers }
     ensures kept { O.beside_writes out.new ≡ O.beside_writes out.old }
 {
-    let carried = carry_words(alloc, words, keeper, dialer, out);
+    let carried = carry_out_words(alloc, words, keeper, dialer, out);
     finish(alloc, carried, out)
 }
 

@@ -17,8 +17,8 @@ pub fn print<O: Sink>(out: &mut O, text: &[u8], status: Status) -> Status
     }
 }
 
-/// Writes that words are no command: `fault: Usage`. Answers Usage; or Outside where a write failed, and then a front of
-/// the line was written. It takes no memory.
+/// Writes that words are no command: `fault: Usage`. Answers Usage; or Outside where a write failed, and then a front
+/// of the line was written. It takes no memory.
 pub fn refuse_words<O: Sink>(out: &mut O) -> Status
     ensures refused { EndsAsUsage result (O.outflow out.old) (O.outflow out.new) }
     ensures kept { O.beside_writes out.new ≡ O.beside_writes out.old }

@@ -6,14 +6,14 @@ use Rattle.braid_client.proofs.running.client_run.Goals as goal
 pub returns : goal.returns
 returns g c = record {
   runs = record {
-    result = c.carry_words-carried.result;
-    before = g.O.Sink.outflow c.carry_words-carried.new.out;
-    carries = c.carry_words-carried.ensures.carries;
+    result = c.carry_out_words-carried.result;
+    before = g.O.Sink.outflow c.carry_out_words-carried.new.out;
+    carries = c.carry_out_words-carried.ensures.carries;
     finishes = c.finish.ensures.finishes;
   };
-  hung_up = words_hung_up c.args.words.now c.carry_words-carried.result
+  hung_up = words_hung_up c.args.words.now c.carry_out_words-carried.result
       (setting (g.K.Keeper.keeping c.args.keeper.now) (g.D.Dialer.dialing c.args.dialer.now) (g.O.Sink.outflow c.args.out.now))
-      (setting (g.K.Keeper.keeping c.carry_words-carried.new.keeper) (g.D.Dialer.dialing c.carry_words-carried.new.dialer) (g.O.Sink.outflow c.carry_words-carried.new.out))
-      c.carry_words-carried.ensures.carries;
-  kept = c.finish.ensures.kept ∙ c.carry_words-carried.ensures.kept;
+      (setting (g.K.Keeper.keeping c.carry_out_words-carried.new.keeper) (g.D.Dialer.dialing c.carry_out_words-carried.new.dialer) (g.O.Sink.outflow c.carry_out_words-carried.new.out))
+      c.carry_out_words-carried.ensures.carries;
+  kept = c.finish.ensures.kept ∙ c.carry_out_words-carried.ensures.kept;
 }

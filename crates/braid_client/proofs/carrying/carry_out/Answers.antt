@@ -1,7 +1,7 @@
 use Rattle.std.proofs.Common.{refl}
 use Rattle.std.proofs.lemmas.Result.{err_from_is_err_and}
 use Rattle.braid_client.proofs.Carried.{new_placed, range_counted, body_counted, made, edited, unedited, replaced, displayed, synced, followed}
-use Rattle.braid_client.proofs.carrying.carry.Goals as goal
+use Rattle.braid_client.proofs.carrying.carry_out.Goals as goal
 
 pub make-requires : goal.make-requires
 make-requires g c = record { place = new_placed c.in-New.agent c.in-New.place c.args.command c.in-New.is c.requires.placed }
