@@ -88,7 +88,7 @@ IsRangeFault value Unit = take_while is_other value ≢ codes "text"
 IsRangeFault value (Form at) = (rest : List ℕ) × IsDeparture value rest × (at + length rest ≡ length value)
 IsRangeFault value Number =
     ((rest : List ℕ) × AfterBracket value rest × BeginsTooLarge rest)
-        ⊎ ((start : ℕ) × (rest : List ℕ) × AfterColon value start rest × BeginsTooLarge rest)
+    ⊎ ((start : ℕ) × (rest : List ℕ) × AfterColon value start rest × BeginsTooLarge rest)
 
 -- the fault of bytes that do not begin with this one, at the end of a value of `len` bytes
 abbrev pub IsByteFault : ℕ → ℕ → List ℕ → RangeFault → Type 0

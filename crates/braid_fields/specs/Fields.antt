@@ -76,7 +76,7 @@ abbrev pub field_from : List ℕ → List ℕ → Option Field
 field_from name [] = None
 field_from name (colon ∷ padded) =
     if is_name name && list_all is_in_value (trimmed padded) then Some (record { name = name; value = trimmed padded })
-        else None
+    else None
 
 -- the field of a content
 abbrev pub field_in : List ℕ → Option Field

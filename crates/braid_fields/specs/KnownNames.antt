@@ -25,7 +25,7 @@ IsNamed ContentEncoding name = IsLike (codes "Content-Encoding") name
 IsNamed TransferEncoding name = IsLike (codes "Transfer-Encoding") name
 IsNamed Other name =
     IsUnlike (codes "Version") name × IsUnlike (codes "Parents") name × IsUnlike (codes "Merge-Type") name
-        × IsUnlike (codes "Patches") name
+    × IsUnlike (codes "Patches") name
     × IsUnlike (codes "Content-Length") name × IsUnlike (codes "Content-Range") name
     × IsUnlike (codes "Content-Encoding") name
     × IsUnlike (codes "Transfer-Encoding") name

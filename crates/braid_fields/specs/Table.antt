@@ -118,8 +118,11 @@ is_backwards range = nat_lt range.end range.start
 abbrev pub field_rows : Bool → Option ℕ → Parts → List Row
 field_rows transfer given p =
     (transfer || is_encoded p.encoding, reasons.Encoded)
-    ∷ (is_repeated p.patches || is_repeated (length_lines given p.length) || is_repeated p.range
-        || is_repeated p.merge_type, reasons.RepeatedField)
+    ∷ (
+      is_repeated p.patches || is_repeated (length_lines given p.length) || is_repeated p.range
+          || is_repeated p.merge_type,
+      reasons.RepeatedField,
+    )
     ∷ (is_other_merge_type p.merge_type, reasons.OtherMergeType)
     ∷ []
 
@@ -202,7 +205,7 @@ patch_plan range len = record { start = range.start; end = range.end; len = len 
 abbrev pub alone_asks : Option ℕ → Parts → Asks
 alone_asks given p =
     if is_there p.range then asks.OnePatch (patch_plan (range_of p.range) (length_of given p.length))
-        else asks.Body (length_of given p.length)
+    else asks.Body (length_of given p.length)
 
 -- the content that a head asks for
 abbrev pub asks_of : Option ℕ → Parts → Asks
@@ -220,7 +223,7 @@ plan_of given p = record {
 abbrev pub judged : Bool → Option ℕ → Parts → Result Plan Reason
 judged transfer given p =
     first_row (field_rows transfer given p
-        ++ (name_rows p ++ (count_rows p.patches ++ content_rows given p))) (plan_of given p)
+    ++ (name_rows p ++ (count_rows p.patches ++ content_rows given p))) (plan_of given p)
 
 -- the plan of an update's head, or the first reason against it
 unfoldable pub judge_head : List Field → Result Plan Reason
@@ -234,7 +237,7 @@ judge_put len p = judged false (Some len) p
 unfoldable pub judge_patch : ℕ → ℕ → List Field → Result PatchPlan Reason
 judge_patch used before fs =
     first_row (patch_rows used before (known fs))
-        (patch_plan (range_of (known fs).parts.range) (length_of None (known fs).parts.length))
+    (patch_plan (range_of (known fs).parts.range) (length_of None (known fs).parts.length))
 
 -- an answer is the plan or the reason that was judged. Memory may come for any head
 abbrev pub Plans : {A : Type 0} → Result A PlanFault → Result A Reason → Type 0

@@ -100,8 +100,8 @@ nothing_behind range (b ∷ bytes) = None
 abbrev pub range_from : ℕ → List ℕ → Option TextRange
 range_from start bytes =
     option_and_then
-        (λ (n : Numbered). option_and_then (nothing_behind (record { start = start; end = n.number }))
-            (after_byte 93 n.rest)) (number_at bytes)
+    (λ (n : Numbered). option_and_then (nothing_behind (record { start = start; end = n.number }))
+    (after_byte 93 n.rest)) (number_at bytes)
 
 -- the range, from what follows the bracket
 abbrev pub range_after : List ℕ → Option TextRange

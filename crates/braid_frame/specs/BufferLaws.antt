@@ -70,7 +70,7 @@ put_and_failed : (a b h k : List ℕ) (x y z : Outflow) → HasPut a h k x y →
     → WritesPart (h ++ (a ++ b)) x z
 put_and_failed a b h k x y z p q =
     let whole : p.went ++ (k ++ b) ≡ h ++ (a ++ b) = sym (append_assoc p.went k b)
-        ∙ ap (λ (t : List ℕ). t ++ b) (sym p.whole) ∙ append_assoc h a b in
+    ∙ ap (λ (t : List ℕ). t ++ b) (sym p.whole) ∙ append_assoc h a b in
     subst (λ (t : List ℕ). WritesPart t x z) whole (part_behind p.went (k ++ b) x y z p.written q)
 
 by_cases : (f g e : Bool) (a b : List ℕ) (x y z : BufferView) → x.failed ≡ f → y.failed ≡ g → z.failed ≡ e
@@ -86,9 +86,9 @@ by_cases false true false a b x y z xf yf zf p q =
     absurd (let is : true ≡ false = sym yf ∙ ap (λ (v : BufferView). v.failed) (sym q) ∙ zf in cc)
 by_cases false true true a b x y z xf yf zf p q =
     let more : WritesPart ((x.held ++ a) ++ b) x.outflow y.outflow =
-        part_of_more (x.held ++ a) b x.outflow y.outflow p in
+    part_of_more (x.held ++ a) b x.outflow y.outflow p in
     subst (λ (v : BufferView). WritesPart (x.held ++ (a ++ b)) x.outflow v.outflow) (sym q)
-        (subst (λ (t : List ℕ). WritesPart t x.outflow y.outflow) (append_assoc x.held a b) more)
+    (subst (λ (t : List ℕ). WritesPart t x.outflow y.outflow) (append_assoc x.held a b) more)
 
 pub puts_more : (a b : List ℕ) (x y z : BufferView) → Puts a x y → Puts b y z → Puts (a ++ b) x z
 puts_more a b x y z p q = by_cases x.failed y.failed z.failed a b x y z refl refl refl p q

@@ -33,13 +33,13 @@ with_patches p patches at rest = Whole (patches_update p.begun (p.done.items ++ 
 abbrev pub behind_patch : Patching → Patch → ℕ → List ℕ → Outcome UpdateView
 behind_patch p patch at bytes =
     then_read (patches_at p.left (p.used + patch_len patch) patch.end at bytes)
-        (λ patches last end. with_patches p (patch ∷ patches) last end)
+    (λ patches last end. with_patches p (patch ∷ patches) last end)
 
 -- what bytes say of the update whose head asks for this
 abbrev pub behind_head : Plan → ℕ → List ℕ → Outcome UpdateView
 behind_head plan at bytes =
     then_read (change_at plan.asks at bytes)
-        (λ change last end. Whole (record { id = plan.id; parents = plan.parents; change = change }) last end)
+    (λ change last end. Whole (record { id = plan.id; parents = plan.parents; change = change }) last end)
 
 -- what bytes say of an update of so many patches
 abbrev pub behind_count : Begun → ℕ → ℕ → List ℕ → Outcome UpdateView

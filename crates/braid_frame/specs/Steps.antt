@@ -61,7 +61,7 @@ pub record Completed (us : List UpdateView) (u : UpdateView) (at : ℕ) (bytes :
 abbrev pub Finishes : List UpdateView → List ℕ → ℕ → Result Fed FeedFault → State → Type 0
 Finishes us bytes taken (Ok fed) new =
     (fed.taken ≡ taken) × StandsAs new.phase (us ++ updates_of fed.update) new.at new.kept.items bytes
-        × IsReading new.phase × IfEnds us fed.update bytes
+    × IsReading new.phase × IfEnds us fed.update bytes
 Finishes us bytes taken (Err (Frame f)) new = HasFault us bytes f × (new.phase ≡ Faulted f)
 Finishes us bytes taken (Err Memory) new = new.phase ≡ NoMemory
 

@@ -39,4 +39,4 @@ abbrev pub head_of : List (List ℕ) → Verdict
 head_of [] = Open
 head_of (l ∷ ls) =
     if is_status l then (if is_good_status l then behind (length l) [] (some_fields_of ls) else Wrong 0 BadStatus)
-        else some_fields_of (l ∷ ls)
+    else some_fields_of (l ∷ ls)

@@ -42,7 +42,7 @@ head_at judge at bytes = settle at bytes (judge (lines_of (take head_limit bytes
 abbrev pub content_at : ℕ → ℕ → List ℕ → Outcome (List ℕ)
 content_at n at bytes =
     if nat_lt (length bytes) n then Part
-        else (if is_utf8 (take n bytes) then Whole (chars (take n bytes)) (at + n) (drop n bytes) else Bad at NotText)
+    else (if is_utf8 (take n bytes) then Whole (chars (take n bytes)) (at + n) (drop n bytes) else Bad at NotText)
 
 -- what comes after a gap
 abbrev pub past_gap : {A : Type 0} → (ℕ → List ℕ → Outcome A) → ℕ → List ℕ → Outcome A
@@ -50,4 +50,4 @@ past_gap f at [] = f at []
 past_gap f at (b ∷ []) = if b == 10 then f (at + 1) [] else f at (b ∷ [])
 past_gap f at (b ∷ c ∷ bs) =
     if b == 10 then past_gap f (at + 1) (c ∷ bs)
-        else (if b == 13 then (if c == 10 then past_gap f (at + 2) bs else f at (b ∷ c ∷ bs)) else f at (b ∷ c ∷ bs))
+    else (if b == 13 then (if c == 10 then past_gap f (at + 2) bs else f at (b ∷ c ∷ bs)) else f at (b ∷ c ∷ bs))

@@ -75,4 +75,4 @@ IsPlanned plan = (fs : List Field) × (judge_head fs ≡ Ok plan)
 abbrev pub update_behind : Plan → ℕ → List ℕ → Outcome UpdateView
 update_behind plan at bytes =
     then_read (change_at plan.asks at bytes)
-        (λ change last end. Whole (record { id = plan.id; parents = plan.parents; change = change }) last end)
+    (λ change last end. Whole (record { id = plan.id; parents = plan.parents; change = change }) last end)

@@ -44,7 +44,7 @@ abbrev pub update_at : ℕ → List ℕ → Outcome UpdateView
 update_at at bytes =
     then_read (head_at head_of at bytes) (λ fs after rest. or_bad at (judge_head fs) (λ plan.
     then_read (change_at plan.asks after rest)
-        (λ change last end. Whole (record { id = plan.id; parents = plan.parents; change = change }) last end)))
+    (λ change last end. Whole (record { id = plan.id; parents = plan.parents; change = change }) last end)))
 
 -- an update after a gap
 abbrev pub next_at : ℕ → List ℕ → Outcome UpdateView

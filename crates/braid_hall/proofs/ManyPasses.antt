@@ -27,7 +27,6 @@ empty_of [] h = refl
 empty_of (x ∷ xs) h = absurd (h x (0, omega arith, refl))
 
 module _ {E : Type 0} (hall : TableId) where
-
   -- where no pass is left, none is away
   pub none_away_of : (p : PassView E) (ps : List (PassView E)) → length ps ≡ 0 → AreAway hall p ps → p.away ≡ []
   none_away_of p ps none c = empty_of p.away (λ x a. let o = c.out x a in let above = o.0 in let below = o.1 in omega arith)
@@ -94,7 +93,6 @@ module _ {E : Type 0} where
   joins_whole p all (x ∷ xs) popped q none whole g = absurd (omega arith)
 
 module _ {E : Type 0} (hall : TableId) where
-
   -- a pass that split off one more
   pub splits_more : (p : PassView E) (n : ℕ) (q : PassView E) (ps : List (PassView E)) → SplitsAll hall p n q ps → SplitsAll hall p (n + 1) (with_split q) (ps ++ new_pass q ∷ [])
   splits_more p n q ps s = let len = length-append ps (new_pass q ∷ []) in let many = s.many in let made = s.made in let next : q.made ≡ length ps = s.made ∙ sym s.many in

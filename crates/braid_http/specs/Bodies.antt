@@ -92,7 +92,7 @@ pub record IsAgainst (kind : BodyKind) (content b : List ℕ) : Type 0 where
 abbrev pub OneChunked : Type 0
 OneChunked =
     (content other b d r s : List ℕ) → IsChunkedBody content b → IsChunkedBody other d → b ++ r ≡ d ++ s
-        → (content ≡ other) × (b ≡ d)
+    → (content ≡ other) × (b ≡ d)
 
 -- bytes that are against a chunked body begin none, and what has come of one neither is nor begins with one, nor with
 -- bytes that are against one

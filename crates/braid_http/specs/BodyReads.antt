@@ -81,7 +81,7 @@ GoesOn SourceFailed kind = ⊥
 abbrev pub ReadsBody : Read → List ℕ → Body → List ℕ → List ℕ → List ℕ → List ℕ → Intake → Intake → Type 0
 ReadsBody (Got n) buf new content b held kept i j =
     (used : List ℕ) × Draws used held kept i j × HasRead new (content ++ take n buf) (b ++ used)
-        × GoesOn new.state new.kind
+    × GoesOn new.state new.kind
 ReadsBody End buf new content b held kept i j =
     (used : List ℕ) × (new.state ≡ Done) × Stops Done new.kind used held kept i j × HasRead new content (b ++ used)
 ReadsBody Failed buf new content b held kept i j =

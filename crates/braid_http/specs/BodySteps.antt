@@ -89,13 +89,13 @@ abbrev pub Passes : Passed → Framing → List ℕ → List ℕ → List ℕ �
 Passes (passes.Data left) old begun after held kept i j =
     (used : List ℕ) × Draws used held kept i j
     × ((content b : List ℕ) → IsAround old begun content b
-        → (after ≡ []) × (0 < left) × IsInChunk left content (b ++ used))
+    → (after ≡ []) × (0 < left) × IsInChunk left content (b ++ used))
 Passes passes.Whole old begun after held kept i j =
     (used : List ℕ) × Draws used held kept i j
-        × ((content b : List ℕ) → IsAround old begun content b → IsChunkedBody content (b ++ used))
+    × ((content b : List ℕ) → IsAround old begun content b → IsChunkedBody content (b ++ used))
 Passes passes.Against old begun after held kept i j =
     (used : List ℕ) × Draws used held kept i j
-        × ((content b : List ℕ) → IsAround old begun content b → IsAgainst kinds.Chunked content (b ++ used))
+    × ((content b : List ℕ) → IsAround old begun content b → IsAgainst kinds.Chunked content (b ++ used))
 Passes (passes.Torn new) old begun after held kept i j =
     (used : List ℕ) × DrawsToEnd used held kept i j
     × ((content b : List ℕ) → IsAround old begun content b → IsAround new after content (b ++ used))

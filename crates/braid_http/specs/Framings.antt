@@ -37,7 +37,7 @@ framing_of (l ∷ ls) (c ∷ cs) = No BothLengths
 abbrev pub framing : ℕ → Entries FieldValue → Framing
 framing minor fields =
     if minor == 0 then No Version
-        else framing_of (get_all fields (codes "content-length")) (get_all fields (codes "transfer-encoding"))
+    else framing_of (get_all fields (codes "content-length")) (get_all fields (codes "transfer-encoding"))
 
 -- a byte before the first of parts
 abbrev pub before_parts : ℕ → List (List ℕ) → List (List ℕ)

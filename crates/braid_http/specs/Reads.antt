@@ -11,5 +11,5 @@ Grows Got held kept old new = (piece : List ℕ) × (piece ≢ []) × (kept ≡ 
 Grows End held kept old new = (kept ≡ held) × (new ≡ old) × IsAtEnd old.left
 Grows Failed held kept old new =
     (kept ≡ held) × (new.taken ≡ old.taken) × (new.left ≡ old.left) × (old.faults ≤ new.faults)
-        × Rose old.faults new.faults
+    × Rose old.faults new.faults
 Grows Memory held kept old new = (kept ≡ held) × (new ≡ old)

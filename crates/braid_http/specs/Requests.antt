@@ -15,8 +15,14 @@ use Rattle.braid_http.specs.Chunks.{Chunk, EndsChunked, IsChunked, bad_chunk, to
 -- the request of a head and its body
 abbrev pub request_of : RequestHead → List ℕ → Request
 request_of h content =
-    record { method = h.method; target = h.target; fields = fields_of h.fields; close =
-        closes (fields_of h.fields); body = content }
+    record {
+      method = h.method;
+      target = h.target;
+      fields = fields_of h.fields;
+      close =
+          closes (fields_of h.fields);
+      body = content;
+    }
 
 -- the head is read as h, has at most 64 lines between its first line and the empty one, and frames its body so
 pub record Says (t : HeadText) (h : RequestHead) (f : Framing) : Type 0 where

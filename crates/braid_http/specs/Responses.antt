@@ -41,7 +41,7 @@ kind_for status (Err f) = Err f
 abbrev pub kind_of : ℕ → Entries FieldValue → Result BodyKind Refusal
 kind_of status fields =
     kind_for status
-        (kind_by_values (get_all fields (codes "content-length")) (get_all fields (codes "transfer-encoding")))
+    (kind_by_values (get_all fields (codes "content-length")) (get_all fields (codes "transfer-encoding")))
 
 -- the bytes are exactly the response head h, as `httparse` reads it by default with room for 64 fields; its status is 100
 -- at least, and no field's name has more than 65,535 bytes, which is all that `http` and `http_header` refuse beside
@@ -99,4 +99,4 @@ OneReply =
 abbrev pub ReplyStaysDecided : Type 0
 ReplyStaysDecided =
     (x : ReplyAnswer) (bytes rest more : List ℕ) → IsReplyDecided x bytes rest
-        → IsReplyDecided x (bytes ++ more) (rest ++ more)
+    → IsReplyDecided x (bytes ++ more) (rest ++ more)

@@ -55,7 +55,7 @@ IsAfter (Trailer look) passed out = IsInTrailer passed out
 abbrev pub OpenAfter : ℕ → ℕ → List ℕ → Type 0
 OpenAfter most total bytes =
     (ds : List Chunk) (k : Close) (l m rest : List ℕ) → AllByRecursion IsChunk ds
-        → total + length (chunk_data ds) ≤ most
+    → total + length (chunk_data ds) ≤ most
     → Closes most (total + length (chunk_data ds)) l m k → bytes ≡ flat_map print_chunk ds ++ ((l ++ m) ++ rest) → ⊥
 
 -- the bytes begin with some that are against a body

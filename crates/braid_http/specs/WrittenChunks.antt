@@ -7,4 +7,4 @@ use Rattle.braid_http.specs.Bodies.{IsChunkedBody}
 abbrev pub WritesChunked : Type 0
 WritesChunked =
     (pieces : List (List ℕ)) (b : List ℕ) → AreWrittenChunks pieces b
-        → IsChunkedBody (flat_map (λ piece. piece) pieces) (b ++ last_chunk)
+    → IsChunkedBody (flat_map (λ piece. piece) pieces) (b ++ last_chunk)

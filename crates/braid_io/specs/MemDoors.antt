@@ -97,8 +97,12 @@ porting_of p = record { asked = Some p.asked; faults = p.faults }
 abbrev pub MemOpens : Asked → Opened MemDoorway MemRinging → MemPorting → MemPorting → Type 0
 MemOpens asked NoMemory old new = new ≡ old
 MemOpens asked NotOpened old new = (Contains old.fails old.calls ⊎ (length old.left < asked.workers))
-    × (new ≡ record old { asked = old.asked ++ asked ∷ []; calls = next_count old.calls; faults =
-        next_count old.faults })
+    × (new ≡ record old {
+      asked = old.asked ++ asked ∷ [];
+      calls = next_count old.calls;
+      faults =
+          next_count old.faults;
+    })
 MemOpens asked (Open pairs) old new = ¬ Contains old.fails old.calls × (old.left ≡ pairs.items ++ new.left)
     × (length pairs.items ≡ asked.workers)
     × (new ≡ record old { asked = old.asked ++ asked ∷ []; left = new.left; calls = next_count old.calls })

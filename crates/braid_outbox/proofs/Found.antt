@@ -52,7 +52,6 @@ first_not u [] e = refl
 first_not u (w ∷ us) e = cc
 
 module _ (agent : List ℕ) (H : List UpdateView) (ns : List ℕ) (c : ℕ) (flags : List Bool) (k : IsKept agent H ns c flags) (q : ReplicaView) (e : replica_in agent H ns c ≡ q) where
-
   abbrev C : List UpdateView
   C = picked H (take c ns)
 

@@ -33,8 +33,8 @@ are_scalars (Patches patches) = have_scalars patches
 abbrev pub is_change : Change → Bool
 is_change c =
     nat_le (length (patches_of c)) 1_000
-        && (are_listed 0 (patches_of c)
-            && (nat_le (content_len c) 1_048_576 && (are_numbered (patches_of c) && are_scalars c)))
+    && (are_listed 0 (patches_of c)
+    && (nat_le (content_len c) 1_048_576 && (are_numbered (patches_of c) && are_scalars c)))
 
 -- bytes from space to tilde
 abbrev pub are_printable : List ℕ → Bool

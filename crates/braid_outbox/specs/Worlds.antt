@@ -64,8 +64,15 @@ cuts s = with_replica s None (replica_of s)
 
 -- the kept copy becomes the replica as it is
 abbrev pub keeps : Side → Side
-keeps s = record { agent = s.agent; confirmed = s.confirmed; unsent = s.unsent; kept_confirmed =
-    s.confirmed; kept_unsent = s.unsent; reading = s.reading }
+keeps s = record {
+  agent = s.agent;
+  confirmed = s.confirmed;
+  unsent = s.unsent;
+  kept_confirmed =
+      s.confirmed;
+  kept_unsent = s.unsent;
+  reading = s.reading;
+}
 
 -- the replica becomes its kept copy, and its subscription ends
 abbrev pub goes_back : Side → Side
@@ -110,8 +117,13 @@ has_update v r = is_some (find_in v r.confirmed) || is_some (find_in v r.unsent)
 abbrev pub posts_first : ℕ → Side → List UpdateView → World → World
 posts_first k s [] w = w
 posts_first k s (u ∷ us) w = if has_update u.id (kept_of s)
-    then record { history = w.history; sides = w.sides; puts = w.puts ++ record { by = k; update = u } ∷ []; replies =
-        w.replies }
+    then record {
+      history = w.history;
+      sides = w.sides;
+      puts = w.puts ++ record { by = k; update = u } ∷ [];
+      replies =
+          w.replies;
+    }
     else w
 
 -- a side, where there is one, makes a PUT of its first unsent update

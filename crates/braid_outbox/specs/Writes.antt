@@ -106,8 +106,8 @@ IsWriteFault limits r c NumbersSpent =
     Fits r c × (2 ^ 64 ≤ last_number r)
 IsWriteFault limits r c (Full which limit) =
     Fits r c × (last_number r < 2 ^ 64)
-        × ((n : ℕ) × (left : ℕ) × IsOver (write_needs r c) (room_of limits (all_of r)) which n left)
-        × (limit ≡ limit_of limits which)
+    × ((n : ℕ) × (left : ℕ) × IsOver (write_needs r c) (room_of limits (all_of r)) which n left)
+    × (limit ≡ limit_of limits which)
 IsWriteFault limits r c Memory = Unit {0}
 
 -- some pure merges were added, and nothing else; none where the change is not written

@@ -71,4 +71,4 @@ AreUnder level S = AllByRecursion (λ (y : Node Key). AllByRecursion (λ (b : Ke
 abbrev pub IsDeletedAt : List (Node Key) → List Patch → Key → Type 0
 IsDeletedAt S rs k =
     (r : Patch) × (i : ℕ) × (x : Node Key) × Contains rs r × (r.start ≤ i) × (i < r.end) × (slice_get S i ≡ Some x)
-        × (x.key ≡ k)
+    × (x.key ≡ k)

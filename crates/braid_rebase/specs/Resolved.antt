@@ -65,7 +65,7 @@ pub record IsReachIn (S : List Row) (reach : Reach) : Type 0 where
 abbrev pub IsRebaseFault : List GraphEntry → List RowDeletion → List Row → UpdateView → RebaseFault → Type 0
 IsRebaseFault es deletions rows u (OutOfRange patch len) =
     (S : List Row) × IsSeenAt es u.parents deletions rows S × (first_past (row_chars S) u.change ≡ Some patch)
-        × (len ≡ length S)
+    × (len ≡ length S)
 IsRebaseFault es deletions rows u Memory = Unit {0}
 
 -- why a change has no ranges in a text: the first joined patch past its end, and its length. Memory may come for any change

@@ -14,4 +14,4 @@ AreRunsOf vs N n [] (r ∷ rs) = ⊥
 AreRunsOf vs N n (run ∷ runs) [] = ⊥
 AreRunsOf vs N n (run ∷ runs) (r ∷ rs) =
     (run.text ≡ r.text) × (run.ordinal ≡ n) × IsOrigin vs N run.after (origin_at N r.start)
-        × AreRunsOf vs N (n + length r.text) runs rs
+    × AreRunsOf vs N (n + length r.text) runs rs

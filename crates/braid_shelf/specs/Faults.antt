@@ -109,7 +109,7 @@ abbrev pub IsParamsFault : List Param → List ℕ → ℕ → ShelfKind → Typ
 IsParamsFault [] bytes left kind = (more : List ℕ) × (bytes ≡ 59 ∷ more) × IsParamFault more left kind
 IsParamsFault (param ∷ params) bytes left kind =
     (more between : List ℕ) × (bytes ≡ 59 ∷ more) × TakesParam param more between
-        × IsParamsFault params between left kind
+    × IsParamsFault params between left kind
 
 -- a member that should begin where these bytes do: a fault within it, or in what follows it
 pub data IsMemberFault : List ℕ → ℕ → ShelfKind → Type 0 where

@@ -58,7 +58,7 @@ abbrev pub put : List Param → Param → List Param
 put [] param = param ∷ []
 put (first ∷ params) param =
     if pointwise nat_eq param.key first.key then record { key = first.key; value = param.value } ∷ params
-        else first ∷ put params param
+    else first ∷ put params param
 
 -- an entry of a map from keys to values, as a parameter
 abbrev pub param_of : List ℕ × Item → Param

@@ -49,7 +49,7 @@ string_from quote text (b ∷ c ∷ bytes) =
     if b == 34 then Read text (c ∷ bytes)
     else (if is_printable b then
     (if b == 92 then (if is_escaped c then string_from quote (text ++ c ∷ []) bytes
-        else Bad (suc (suc (length bytes))) BadItem)
+    else Bad (suc (suc (length bytes))) BadItem)
     else string_from quote (text ++ b ∷ []) (c ∷ bytes))
     else Bad (suc (suc (length bytes))) BadItem)
 
@@ -72,7 +72,7 @@ unfoldable pub boolean_from : ℕ → List ℕ → Outcome Item
 boolean_from first [] = Bad first BadItem
 boolean_from first (b ∷ bytes) =
     if b == 48 then Read (items.Bool false) bytes
-        else (if b == 49 then Read (items.Bool true) bytes else Bad first BadItem)
+    else (if b == 49 then Read (items.Bool true) bytes else Bad first BadItem)
 
 -- an item, by its first byte
 unfoldable pub item_at : List ℕ → Outcome Item
@@ -119,14 +119,14 @@ params_at params bytes = while_read begins_param param_step (length bytes) param
 unfoldable pub member_at : List ℕ → Outcome Member
 member_at bytes =
     then_read (item_at bytes)
-        (λ item rest. then_read (params_at [] rest) (λ params end. Read (record { item = item; params = params }) end))
+    (λ item rest. then_read (params_at [] rest) (λ params end. Read (record { item = item; params = params }) end))
 
 -- the comma before a further member, or the end
 unfoldable pub separator_at : List ℕ → Outcome (Unit {0})
 separator_at [] = Read tt []
 separator_at (b ∷ bytes) =
     if b == 44 then (if length (after is_blank bytes) == 0 then Bad (suc (length bytes)) TrailingComma
-        else Read tt (after is_blank bytes))
+    else Read tt (after is_blank bytes))
     else Bad (suc (length bytes)) MissingComma
 
 -- the members that were read, and how many bytes were left at the first of them that is no String alone
@@ -149,8 +149,8 @@ is_some_left (b ∷ bytes) = true
 abbrev pub member_step : Found → List ℕ → Outcome Found
 member_step found bytes =
     then_read (member_at bytes)
-        (λ member rest. then_read (separator_at (after is_blank rest))
-            (λ _ more. Read (with_member found (length bytes) member) more))
+    (λ member rest. then_read (separator_at (after is_blank rest))
+    (λ _ more. Read (with_member found (length bytes) member) more))
 
 -- members, where some were read before
 unfoldable pub members_at : Found → List ℕ → Outcome Found

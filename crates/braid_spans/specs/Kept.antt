@@ -71,7 +71,7 @@ SpellsAlike old new = (versions : ℕ) (chars : List ℕ) (chains : List (List �
 abbrev pub IsEndAt : List Run → At → ℕ → Type 0
 IsEndAt rs at i =
     IsSomeAnd (slice_get rs i) (λ (r : Run). (r.first.version ≡ at.version)
-        × (r.first.ordinal + r.len ≡ at.ordinal + 1))
+    × (r.first.ordinal + r.len ≡ at.ordinal + 1))
 
 -- run number i begins with the element at a place and has at most so many
 abbrev pub IsPartAt : List Run → At → ℕ → ℕ → Type 0

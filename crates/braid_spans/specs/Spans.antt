@@ -22,7 +22,7 @@ abbrev pub spell : List ℕ → ℕ → Option At → ℕ → List ℕ → List 
 spell by version origin n [] = []
 spell by version origin n (c ∷ cs) =
     record { row = record { at = place version n; char = c; origin = origin }; by = by }
-        ∷ spell by version (Some (place version n)) (n + 1) cs
+    ∷ spell by version (Some (place version n)) (n + 1) cs
 
 -- the elements of a run
 abbrev pub spelled_span : Span → List Spelled

@@ -11,8 +11,14 @@ use Rattle.braid_state.specs.Heads.{Head, head_lines, line_of, most_updates, Has
 
 -- the head of a state's text: its counts in decimal
 abbrev pub head_of : State → Head
-head_of s = record { agent = s.agent; server = s.server; path = s.path; confirmed =
-    decimal (length s.confirmed); unsent = decimal (length s.unsent) }
+head_of s = record {
+  agent = s.agent;
+  server = s.server;
+  path = s.path;
+  confirmed =
+      decimal (length s.confirmed);
+  unsent = decimal (length s.unsent);
+}
 
 -- updates, each after a gap, and then the rest
 abbrev pub UpdatesThen : List UpdateView → List ℕ → List ℕ → Type 0

@@ -15,8 +15,14 @@ IfBad Memory P = Unit {0}
 -- the head that was read
 abbrev pub head_read : Heading → Head
 head_read heading =
-    record { agent = heading.agent; server = heading.server; path = heading.path; confirmed =
-        decimal heading.confirmed; unsent = decimal heading.unsent }
+    record {
+      agent = heading.agent;
+      server = heading.server;
+      path = heading.path;
+      confirmed =
+          decimal heading.confirmed;
+      unsent = decimal heading.unsent;
+    }
 
 -- bytes are an update after a gap, and what follows it
 pub record IsFirstUpdate (u : UpdateView) (rest bytes : List ℕ) : Type 0 where

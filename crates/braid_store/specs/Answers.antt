@@ -61,7 +61,7 @@ IsPut B e (OutOfRange patch len) =
     × (len ≡ length (text_at (of_path B e.path) e.update.parents))
 IsPut B e (Full which limit) =
     MayFollow (of_path B e.path) e.update × IsFirstOver (counts_at (B ++ e ∷ []) e.path) which
-        × (limit ≡ limit_of which)
+    × (limit ≡ limit_of which)
 IsPut B e Memory = ¬ (Contains (of_path B e.path) e.update)
 
 -- a refusal of a path's history as the book's answer; what a history says of room is no answer of a book

@@ -18,9 +18,9 @@ use Rattle.braid_store.specs.Answers.{IsPut}
 abbrev pub entry_at : List (List ℕ × List UpdateView) → Place → Option Entry
 entry_at rs place =
     option_and_then
-        (λ (r : List ℕ × List UpdateView). option_map
-            (λ (u : UpdateView). record { path = r.0; by = place.by; update = u }) (slice_get r.1 place.number))
-                (slice_get rs place.resource)
+    (λ (r : List ℕ × List UpdateView). option_map
+    (λ (u : UpdateView). record { path = r.0; by = place.by; update = u }) (slice_get r.1 place.number))
+    (slice_get rs place.resource)
 
 -- the entries at places, of resources that are listed by path
 abbrev pub entries_at : List (List ℕ × List UpdateView) → List Place → List Entry

@@ -61,7 +61,7 @@ IsCause us more bytes before after (Update u) = Moves more before after × Begin
 IsCause us more bytes before after End = EndsBehind more before after × IsStream us bytes × (length bytes < most_bytes)
 IsCause us more bytes before after (Torn at) =
     EndsBehind more before after × HaveUpdates us bytes × IsTorn bytes × (at ≡ length bytes)
-        × (length bytes < most_bytes)
+    × (length bytes < most_bytes)
 IsCause us more bytes before after (Fault f) = Moves more before after × HasFault us bytes f
     × (length bytes ≤ most_bytes)
 IsCause us more bytes before after ReadFault =

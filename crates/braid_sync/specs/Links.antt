@@ -68,13 +68,13 @@ PassesBody (Ok x) kind bytes rest left =
     (content passed : List ℕ) × (bytes ≡ passed ++ rest) × IsOver kind content passed rest left × IsWithin kind content
 PassesBody (Err ends.Cut) kind bytes rest left =
     (content passed : List ℕ) × (bytes ≡ passed ++ rest) × IsCutOff kind content passed rest left
-        × (length content < most_bytes)
+    × (length content < most_bytes)
 PassesBody (Err (ends.BadHead f)) kind bytes rest left =
     (content passed : List ℕ) × (bytes ≡ passed ++ rest) × (f ≡ Against) × IsAgainst kind content passed
-        × (length content < most_bytes)
+    × (length content < most_bytes)
 PassesBody (Err ends.ReadFault) kind bytes rest left =
     (content passed : List ℕ) × (bytes ≡ passed ++ rest) × HasBegun kind content passed × (rest ≡ [])
-        × (length content < most_bytes)
+    × (length content < most_bytes)
 PassesBody (Err ends.Spent) kind bytes rest left =
     (content passed : List ℕ) × (bytes ≡ passed ++ rest) × HasBegun kind content passed × (length content ≡ most_bytes)
 PassesBody (Err end) kind bytes rest left = ⊥
@@ -116,7 +116,7 @@ abbrev pub Talks : {A : Type 0} → Place → Result A SyncEnd → (Said → Typ
 Talks place result P kept old new =
     TalksOnce place (failing_in result) P old new
     ⊎ (kept × ((result ≡ Err ends.DialFault) ⊎ (result ≡ Err ends.Memory)) × Gains [] old new
-        × FailedBy (failing_in result) [] old new)
+    × FailedBy (failing_in result) [] old new)
 
 -- a sync, as it stands when it ends: Ok is Done
 abbrev pub end_in_sync : Result (Unit {0}) SyncEnd → SyncEnd

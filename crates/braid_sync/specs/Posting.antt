@@ -85,13 +85,13 @@ abbrev pub EndsReply : SyncEnd → List ℕ → Option (List ℕ) → Type 0
 EndsReply ends.Cut bytes left =
     (IsReplyOpen bytes × IsAtEnd left)
     ⊎ IsInBody bytes (λ head content passed rest. IsCutOff head.body content passed rest left
-        × (length content < most_bytes))
+    × (length content < most_bytes))
 EndsReply (ends.Peer status) bytes left = (status ≢ 200) × (rest : List ℕ) × IsReply status bytes rest left
 EndsReply (ends.BadHead f) bytes left = ((rest : List ℕ) × IsReplyDecided (refused f) bytes rest) ⊎ IsBadReply f bytes
 EndsReply ends.ReadFault bytes left =
     IsReplyOpen bytes
     ⊎ IsInBody bytes (λ head content passed rest. HasBegun head.body content passed × (rest ≡ [])
-        × (length content < most_bytes))
+    × (length content < most_bytes))
 EndsReply ends.Spent bytes left =
     IsInBody bytes (λ head content passed rest. HasBegun head.body content passed × (length content ≡ most_bytes))
 EndsReply end bytes left = ⊥

@@ -85,8 +85,8 @@ abbrev pub ReadsHead : Result ReplyHead SyncEnd → List ℕ → List ℕ → Li
 ReadsHead (Ok head) held given kept left = IsReplyDecided (replied head) (held ++ given) kept
 ReadsHead (Err end) held given kept left =
     ((server sent : List ℕ)
-        → EndsHead end (record { server = server; sent = sent; given = held ++ given; left = left }))
-            ⊎ (end ≡ ends.Memory)
+    → EndsHead end (record { server = server; sent = sent; given = held ++ given; left = left }))
+    ⊎ (end ≡ ends.Memory)
 
 -- a reply was read whole of a wire that held these bytes
 abbrev pub ReadsReply : Result ℕ SyncEnd → List ℕ → List ℕ → List ℕ → Option (List ℕ) → Type 0
@@ -157,8 +157,8 @@ IsHeard heards.Whole wire body reader piece us content passed j =
     IsStream us content × (length content < most_bytes) × IsOver body.kind content passed wire.held j.left
 IsHeard heards.Cut wire body reader piece us content passed j =
     HaveAll us content
-        × ((IsOver body.kind content passed wire.held j.left × IsTorn content)
-            ⊎ IsCutOff body.kind content passed wire.held j.left)
+    × ((IsOver body.kind content passed wire.held j.left × IsTorn content)
+    ⊎ IsCutOff body.kind content passed wire.held j.left)
 IsHeard heards.BadChunk wire body reader piece us content passed j = IsBadChunk body.kind us content passed
 IsHeard (heards.Fault f) wire body reader piece us content passed j = HasFault us (seen content) f
 IsHeard heards.ReadFault wire body reader piece us content passed j = HaveAll us content
@@ -207,7 +207,7 @@ abbrev pub Refills : Option Heard → Stream → Stream → List UpdateView → 
     → Outflow → Type 0
 Refills None old new us content passed i j o p =
     (given : List ℕ) × (used : List ℕ) × (more : List ℕ) × Does [] given nothing_failed i j o p
-        × (old.wire.held ++ given ≡ used ++ new.wire.held)
+    × (old.wire.held ++ given ≡ used ++ new.wire.held)
     × StreamsOn new.wire new.body new.reader new.piece us (content ++ more) (passed ++ used) × (more ≢ [])
 Refills (Some heard) old new us content passed i j o p = IsLast heard
     × StreamsNext heard old new us content passed i j o p

@@ -60,7 +60,7 @@ abbrev pub new_rows : ℕ → Option At → ℕ → List ℕ → List PlainRow
 new_rows version origin n [] = []
 new_rows version origin n (c ∷ cs) =
     record { at = place version n; character = c; origin = origin; newest = None }
-        ∷ new_rows version (Some (place version n)) (n + 1) cs
+    ∷ new_rows version (Some (place version n)) (n + 1) cs
 
 -- a deletion that is there is one of the place
 abbrev pub is_of_place : Option RowDeletion → At → Bool

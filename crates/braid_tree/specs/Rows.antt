@@ -89,7 +89,7 @@ PutsOne {A} old x new = (front : List A) × (back : List A) × (old ≡ front ++
 abbrev pub IsOrigin : List Stamp → List (Node Key) → Option At → List Key → Type 0
 IsOrigin vs es after above =
     MatchOption after (above ≡ []) (λ (at : At). (z : Node Key) × Member z es × (z.key ≡ key_at vs at)
-        × (path_of z ≡ above))
+    × (path_of z ≡ above))
 
 -- what a run's place in the order rests on: the rows list a tree, the run's origin is its node at this path or the root, and
 -- the run's keys are greater than those of the path, and new

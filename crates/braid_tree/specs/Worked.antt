@@ -23,4 +23,4 @@ r_run = run (key_in 3 (codes "r-1")) (path_of_a ++ key_in 2 (codes "q-1") 0 ∷ 
 abbrev pub text_of_runs : List (Node Key) → List (Node Key) → List (Node Key) → List (Node Key) → List ℕ
 text_of_runs first second third fourth =
     map (λ (x : Node Key). x.char)
-        (with_nodes key_cmp fourth (with_nodes key_cmp third (with_nodes key_cmp second (with_nodes key_cmp first []))))
+    (with_nodes key_cmp fourth (with_nodes key_cmp third (with_nodes key_cmp second (with_nodes key_cmp first []))))

@@ -66,7 +66,7 @@ EndsEarly last bytes old new = ⊥
 abbrev pub HoldPieces : List Entry → List ℕ → List (List ℕ) → ℕ → List ℕ → List ℕ → ℕ → Type 0
 HoldPieces book path from n marks bytes j =
     IsFront (subscription_head (take n book) path
-        ++ flat_map piece_text (take j (watch_pieces book path from n marks))) bytes
+    ++ flat_map piece_text (take j (watch_pieces book path from n marks))) bytes
 
 -- What is read of a front of a subscription's bytes. The updates are a front of what is sent up to the last mark. The reading
 -- came to the end of the bytes, and then the updates begin with those of all pieces that the bytes hold whole; or it ended
