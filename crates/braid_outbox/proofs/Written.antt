@@ -123,6 +123,9 @@ log_with r ms = ap reverse (sym (append_assoc r.confirmed r.unsent ms)) ∙ reve
 pub more_unsent : (r : ReplicaView) (xs ys : List UpdateView) → with_unsent (with_unsent r xs) ys ≡ with_unsent r (xs ++ ys)
 more_unsent r xs ys = ap (λ (t : List UpdateView). record { agent = r.agent; confirmed = r.confirmed; unsent = t }) (append_assoc r.unsent xs ys)
 
+none_unsent : (r : ReplicaView) → r ≡ with_unsent r []
+none_unsent r = ap (λ (t : List UpdateView). record { agent = r.agent; confirmed = r.confirmed; unsent = t }) (sym (append-nil r.unsent))
+
 module _ (r : ReplicaView) (agent : IsAgent r.agent) (sound : IsSound r) (count first : ℕ) (counted : count ≡ merges_needed (length (frontier (all_of r)))) (begins : first ≡ 1 + greatest_number r.agent (log_of r)) (small : first + count < 2 ^ 64) where
   abbrev ms : List UpdateView
   ms = merges_of r
@@ -170,6 +173,10 @@ numbers_fit limits r c due = lt_from (last_number r) (2 ^ 64) (and_cases n f (an
 
     f : Bool
     f = not (is_some (first_full (write_needs r c) (room_of limits (all_of r))))
+
+-- what is left where nothing, or not all, was added
+pub adds_none : (limits : Room) (r q : ReplicaView) (c : Change) → q ≡ r → AddsMerges limits r c q
+adds_none limits r q c e = record { count = 0; added = e ∙ none_unsent r; due = λ l. absurd (omega (arith, l)) }
 
 pub adds_all : (limits : Room) (r q s : ReplicaView) (c : Change) → is_written limits r c ≡ true → q ≡ with_unsent r (merges_of r) → s ≡ q → AddsMerges limits r c s
 adds_all limits r q s c due e f = record { count = length (merges_of r); added = f ∙ e ∙ ap (with_unsent r) (sym (take_all (length (merges_of r)) (merges_of r) (omega arith))); due = λ l. due }
@@ -281,6 +288,11 @@ over_room r c merges i d room which e f g h over = subst (λ (t : Room). (n : �
 -- a fault that is passed on
 pub fault_passed : {A E : Type 0} (P : E → Type 0) (r : Result A E) (e f : E) → r ≡ Err e → e ≡ f → P f → IfErr r P
 fault_passed {A = A} {E = E} P r e f h k p = subst (λ (x : Result A E). IfErr x P) (sym h) (subst P (sym k) p)
+
+-- what holds anyway holds after an error
+pub any_err : {A E P : Type 0} (r : Result A E) → P → OnErr r P
+any_err (Ok x) p = tt
+any_err (Err x) p = p
 
 pub on_err : {A E : Type 0} (P : Type 0) (r : Result A E) → OnErr r P → ((x : A) → r ≡ Ok x → ⊥) → P
 on_err P (Ok x) h n = absurd (n x refl)

@@ -1,9 +1,9 @@
-use Rattle.std.proofs.Common.{◌≡◌, true, arith, subst, ◌∙◌}
+use Rattle.std.proofs.Common.{◌≡◌, true, arith, refl, subst, ◌∙◌}
 use Rattle.std.proofs.lemmas.Result.{err_from_is_err_and}
 use Rattle.braid_change.specs.declared.change.Change.{Change}
 use Rattle.braid_text.specs.Rooms.{replica_limits}
 use Rattle.braid_outbox.specs.Writes.{IsWriteFault, is_written}
-use Rattle.braid_outbox.proofs.Written.{fault_passed, on_err, numbers_fit, change_number, adds_all}
+use Rattle.braid_outbox.proofs.Written.{fault_passed, any_err, on_err, numbers_fit, change_number, adds_none, adds_all}
 use Rattle.braid_outbox.proofs.replica.Replica.write.Goals as goal
 
 pub returns-in_err-plan-clause-fault : goal.returns-in_err-plan-clause-fault
@@ -11,6 +11,9 @@ returns-in_err-plan-clause-fault c =
     let q = err_from_is_err_and c.from_residual-in_err-plan.result c.from_residual-in_err-plan.ensures.1 in
     fault_passed (IsWriteFault replica_limits c.args.self.now c.args.change) c.from_residual-in_err-plan.result q.0 c.in_err-plan.field-0.0 q.1 q.2
     (subst (λ (ch : Change). IsWriteFault replica_limits c.args.self.now ch c.in_err-plan.field-0.0) (c.change.ensures.value ∙ c.in_ok-draft.ensures.ok) c.in_err-plan.ensures.fault)
+
+pub returns-in_err-plan-clause-merged : goal.returns-in_err-plan-clause-merged
+returns-in_err-plan-clause-merged c = any_err c.from_residual-in_err-plan.result (adds_none replica_limits c.args.self.now c.args.self.now c.args.change refl)
 
 pub add_change-requires-clause-number : goal.add_change-requires-clause-number
 add_change-requires-clause-number c = change_number c.args.self.now c.agent-agent.ensures.valid c.confirmed-confirmed.ensures.sound c.in_ok-plan.plan.merges c.in_ok-plan.plan.number c.in_ok-plan.ensures.merges c.in_ok-plan.ensures.number
