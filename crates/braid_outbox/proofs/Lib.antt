@@ -14,6 +14,8 @@ pub mod Public
 pub mod Picked
 pub mod Marking
 pub mod Keeping
+pub mod HeadMarks
+pub mod Wholes
 pub mod Calls
 pub mod Learned
 pub mod Found

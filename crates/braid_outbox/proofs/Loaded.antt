@@ -1,5 +1,5 @@
 -- A replica that is made of two lists, one update after the other.
-use Rattle.std.proofs.Common.{◌≡◌, ◌≢◌, ◌↔◌, ℕ, ◌<◌, ◌≤◌, ◌+◌, ◌-◌, List, Bool, not, [], ◌∷◌, ◌++◌, refl, sym, ap, subst, ◌∙◌, inl, arith, length, take, reverse, Some, zero, suc, length-append, append_assoc, append-nil}
+use Rattle.std.proofs.Common.{◌≡◌, ◌≢◌, ℕ, ◌<◌, ◌≤◌, ◌+◌, ◌-◌, List, Bool, not, [], ◌∷◌, ◌++◌, refl, sym, ap, subst, ◌∙◌, inl, arith, length, take, reverse, Some, zero, suc, length-append, append_assoc, append-nil}
 use Rattle.std.proofs.lemmas.List.{take_all, length-reverse, length-map}
 use Rattle.std.proofs.lemmas.List.Filters.{length-filter_both}
 use Rattle.std.specs.List.{Contains, slice_get}

@@ -1,28 +1,25 @@
 -- What is read of a replica, and where it resumes.
-use Rattle.std.proofs.Common.{◌≡◌, ◌↔◌, ℕ, ◌<◌, ◌≤◌, ◌+◌, List, Bool, [], ◌∷◌, ◌++◌, refl, sym, ap, subst, ◌∙◌, arith, length, take, reverse, Some, zero, suc}
-use Rattle.std.proofs.lemmas.List.{take_all, map-append}
+use Rattle.std.proofs.Common.{◌≡◌, ◌↔◌, ℕ, ◌≤◌, ◌+◌, List, Bool, [], ◌∷◌, ◌++◌, sym, ap, subst, ◌∙◌, arith, length, take, Some}
+use Rattle.std.proofs.lemmas.List.{take_all}
 use Rattle.std.specs.List.{Contains, slice_get}
 use Rattle.std.specs.declared.result.Result.{Result}
 use Rattle.std.specs.declared.result.Result.TheVariants.{Ok, Err}
 use Rattle.std.specs.Result.{IfOk}
 use Rattle.braid_ids.specs.Frontiers.{IsRising}
-use Rattle.braid_ids.proofs.Members.{slice_get-append_left}
 use Rattle.braid_change.specs.Updates.{UpdateView}
-use Rattle.braid_graph.specs.Entries.{GraphEntry, Holds, HoldsAll, IsHistoryGraph}
+use Rattle.braid_graph.specs.Entries.{GraphEntry, HoldsAll}
 use Rattle.braid_graph.specs.Frontiers.{IsFrontierOf, frontier_of}
 use Rattle.braid_graph.proofs.Frontiers.{one_frontier}
 use Rattle.braid_graph.proofs.Kept.{take_next}
 use Rattle.braid_tree.specs.Trees.{Member}
 use Rattle.braid_rebase.proofs.Members.{contains_member, member_contains}
-use Rattle.braid_text.specs.Histories.{entry_of, graph_of, IsLegal, IsLegalLog, SameGraph, text_at, text_of}
+use Rattle.braid_text.specs.Histories.{graph_of, IsLegal, SameGraph, text_at, text_of}
 use Rattle.braid_text.specs.Digested.{digest_at}
 use Rattle.braid_text.proofs.Digests.{same_digest}
-use Rattle.braid_text.proofs.Logs.{legal_back}
 use Rattle.braid_text.proofs.Public.{same_text_at}
-use Rattle.braid_text.proofs.Ties.{legal_graph}
-use Rattle.braid_outbox.specs.Replicas.{ReplicaView, IsSound, all_of, frontier, resume_of}
+use Rattle.braid_outbox.specs.Replicas.{ReplicaView, all_of, frontier, resume_of}
 use Rattle.braid_outbox.specs.Kept.{replica_in, IsKept}
-use Rattle.braid_outbox.proofs.Additions.{log_parts}
+use Rattle.braid_outbox.specs.Heads.{IsHead}
 use Rattle.braid_outbox.proofs.Fronts.{take_rises, same_rising}
 use Rattle.braid_outbox.proofs.Keeping.{alike, all_is, same_graph, within}
 use Rattle.braid_outbox.proofs.Picked.{picked_length}
@@ -53,32 +50,11 @@ module _ (agent : List ℕ) (H : List UpdateView) (ns : List ℕ) (c : ℕ) (fla
   pub digest_now : (d : List ℕ) → d ≡ digest_at H → d ≡ digest_at (all_of q)
   digest_now d s = s ∙ same_digest H (all_of q) k.legal legal_now same_now
 
--- the graph of the first confirmed updates
-take_map : (us : List UpdateView) (n : ℕ) → graph_of (take n us) ≡ take n (graph_of us)
-take_map us zero = refl
-take_map [] (suc n) = refl
-take_map (u ∷ us) (suc n) = ap (λ t. entry_of u ∷ t) (take_map us n)
-
-get_map : (us : List UpdateView) (n : ℕ) (u : UpdateView) → slice_get us n ≡ Some u → slice_get (graph_of us) n ≡ Some (entry_of u)
-get_map [] n u e = cc
-get_map (w ∷ us) zero u e = let f : w ≡ u = cc in ap (λ (t : UpdateView). Some (entry_of t)) f
-get_map (w ∷ us) (suc n) u e = get_map us n u e
-
-module _ (q : ReplicaView) (sound : IsSound q) (n : ℕ) (within : n < length q.confirmed) (u : UpdateView) (at : Some u ≡ slice_get (all_of q) n) where
-  here : slice_get q.confirmed n ≡ Some u
-  here = sym (slice_get-append_left q.confirmed q.unsent n within) ∙ sym at
-
-  history : IsHistoryGraph (graph_of q.confirmed)
-  history = legal_graph q.confirmed (legal_back (reverse q.unsent) (reverse q.confirmed) (subst IsLegalLog (log_parts q.confirmed q.unsent) sound.legal))
-
-  pub graph_new : (es : List GraphEntry) → es ≡ graph_of (take n q.confirmed) → (id : List ℕ) → id ≡ u.id → Holds es id → ⊥
-  graph_new es e id f h = history.distinct n (entry_of u) (get_map q.confirmed n u here) (subst (λ (t : List GraphEntry). Holds t u.id) (e ∙ take_map q.confirmed n) (subst (Holds es) f h))
-
-  pub graph_held : (es : List GraphEntry) → es ≡ graph_of (take n q.confirmed) → (parents : List (List ℕ)) → parents ≡ u.parents → HoldsAll es parents
-  graph_held es e parents f = subst (HoldsAll es) (sym f) (subst (λ (t : List GraphEntry). HoldsAll t u.parents) (sym (e ∙ take_map q.confirmed n)) (history.parents_first n (entry_of u) (get_map q.confirmed n u here)))
-
-  pub graph_next : (es es' : List GraphEntry) (id : List ℕ) (parents : List (List ℕ)) → es ≡ graph_of (take n q.confirmed) → id ≡ u.id → parents ≡ u.parents → es' ≡ es ++ record { id = id; parents = parents } ∷ [] → es' ≡ graph_of (take (n + 1) q.confirmed)
-  graph_next es es' id parents e f g s = s ∙ (λ i. e i ++ record { id = f i; parents = g i } ∷ []) ∙ sym (ap graph_of (take_next q.confirmed n u here) ∙ map-append entry_of (take n q.confirmed) (u ∷ []))
+-- the identifiers of the heads, sorted
+pub frontier_ok : {E : Type 0} (es : List GraphEntry) (ids : List (List ℕ)) (r : Result (List (List ℕ)) E) → ((v : List ℕ) → Contains ids v ↔ IsHead es v) → IfOk r IsRising → IfOk r (λ (F : List (List ℕ)). (v : List ℕ) → Contains F v ↔ Contains ids v)
+    → IfOk r (IsFrontierOf es)
+frontier_ok es ids (Ok F) heads rising same = record { rising = rising; exact = λ v. ((λ m. (heads v).0 ((same v).0 m)), (λ h. (same v).1 ((heads v).1 h))) }
+frontier_ok es ids (Err x) heads rising same = rising
 
 -- the identifiers that a replica resumes from
 pub resumes : (q : ReplicaView) (es : List GraphEntry) (F ids G : List (List ℕ)) → es ≡ graph_of q.confirmed → IsFrontierOf es F → ids ≡ take 32 F → IsRising G → ((v : List ℕ) → Contains G v ↔ Contains ids v) → G ≡ resume_of q

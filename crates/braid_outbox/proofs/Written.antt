@@ -1,5 +1,5 @@
 -- What a write rests on: the agent's numbers, the next pure merge at each step, and what a change needs.
-use Rattle.std.proofs.Common.{◌≡◌, ◌↔◌, ℕ, ◌<◌, ◌≤◌, ◌+◌, ◌-◌, ◌^◌, List, Bool, true, false, ◌&&◌, not, cond, nat_lt, nat_le, [], ◌∷◌, ◌++◌, refl, sym, ap, subst, ◌∙◌, inl, arith, length, min, max, filter, take, reverse, Option, None, Some, is_some, unwrap_or, zero, suc, length-append, append_assoc, append-nil}
+use Rattle.std.proofs.Common.{◌≡◌, ◌↔◌, ℕ, ◌<◌, ◌≤◌, ◌+◌, ◌-◌, ◌^◌, List, Bool, true, false, ◌&&◌, not, cond, nat_lt, nat_le, [], ◌∷◌, ◌++◌, refl, sym, ap, subst, ◌∙◌, inl, arith, length, min, filter, take, reverse, Option, None, Some, is_some, unwrap_or, zero, suc, length-append, append_assoc, append-nil}
 use Rattle.std.proofs.lemmas.List.{reverse-append, take_all, take-append-le, take-append-drop, length-map}
 use Rattle.std.proofs.lemmas.List.Elements.{filter-append}
 use Rattle.std.proofs.lemmas.List.Filters.{length-filter_both}
@@ -56,22 +56,6 @@ number_none a v h = go (number a v) refl
     go : (o : Option ℕ) → number a v ≡ o → 0 ≡ unwrap_or o 0
     go None e = refl
     go (Some k) e = let n = number_is a v k e in absurd (h k n.1 n.2 n.0)
-
--- the greatest number, in whatever order
-greatest_push : (a : List ℕ) (us : List UpdateView) (u : UpdateView) → greatest_number a (us ++ u ∷ []) ≡ max (unwrap_or (number a u.id) 0) (greatest_number a us)
-greatest_push a [] u = omega arith
-greatest_push a (w ∷ us) u = let g = greatest_push a us u in omega (arith, g)
-
-pub greatest_turned : (a : List ℕ) (us : List UpdateView) → greatest_number a (reverse us) ≡ greatest_number a us
-greatest_turned a [] = refl
-greatest_turned a (u ∷ us) = ap (greatest_number a) (reverse-append (u ∷ []) us) ∙ greatest_push a (reverse us) u ∙ ap (λ (n : ℕ). max (unwrap_or (number a u.id) 0) n) (greatest_turned a us)
-
-pub greatest_next : (a : List ℕ) (us : List UpdateView) (n : ℕ) (u : UpdateView) (v : List ℕ) (g k : ℕ) → Some u ≡ slice_get us n → v ≡ u.id → g ≡ greatest_number a (take n us) → k ≡ unwrap_or (number a v) 0 → max k g ≡ greatest_number a (take (n + 1) us)
-greatest_next a us n u v g k at same e f = (λ i. max (f i) (e i)) ∙ ap (λ (w : List ℕ). max (unwrap_or (number a w) 0) (greatest_number a (take n us))) same
-    ∙ sym (greatest_push a (take n us) u) ∙ ap (greatest_number a) (sym (take_next us n u (sym at)))
-
-pub greatest_all : (a : List ℕ) (us : List UpdateView) (n g : ℕ) → length us ≤ n → g ≡ greatest_number a (take n us) → g ≡ greatest_number a (reverse us)
-greatest_all a us n g far e = e ∙ ap (greatest_number a) (take_all n us far) ∙ sym (greatest_turned a us)
 
 -- the merge that is made at each step
 pub record IsStep (a : List ℕ) (us os ms : List UpdateView) (i : ℕ) : Type 0 where

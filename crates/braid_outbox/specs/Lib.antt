@@ -5,5 +5,6 @@ pub mod Learns
 pub mod Worlds
 pub mod Laws
 pub mod Kept
+pub mod Heads
 pub mod Standings
 pub mod Made

@@ -1,7 +1,7 @@
 //! Laws of a world of one history and its replicas, over every list of events, and of every sound replica. Each is the
 //! contract of a function that does nothing.
 
-ghost use Rattle.std.specs.Prelude.{◌≡◌, ◌↔◌, ℕ, List, Bool, true, Contains, take, length};
+ghost use Rattle.std.specs.Prelude.{◌≡◌, ℕ, List, Bool, true, Contains, take, length};
 ghost use Rattle.braid_ids.specs.Agents.{IsAgent};
 ghost use Rattle.braid_change.specs.declared.change.Change.{Change};
 ghost use Rattle.braid_change.specs.Updates.{UpdateView, IsUpdate};

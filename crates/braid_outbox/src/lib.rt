@@ -11,6 +11,7 @@
 
 mod counting;
 mod faults;
+mod heads;
 pub mod laws;
 mod learn;
 mod learning;

@@ -1,6 +1,6 @@
 //! A replica of two lists of updates.
 
-ghost use Rattle.std.specs.Prelude.{◌≡◌, ◌<◌, ◌≤◌, ◌+◌, ◌-◌, ◌^◌, ◌++◌, ◌∷◌, ◌↔◌, [], ℕ, List, Some, IsTrue, Ok, IfOk, IfErr, OnOk, Contains, length, true, false};
+ghost use Rattle.std.specs.Prelude.{◌≡◌, ◌<◌, ◌+◌, ◌-◌, ◌^◌, ◌++◌, ◌∷◌, ◌↔◌, [], ℕ, List, Some, IsTrue, Ok, IfOk, IfErr, OnOk, Contains, length, true, false};
 ghost use Rattle.braid_outbox.specs.Made.{IsFine, IsFirstFault, IsBadReplica, MakesReplica};
 ghost use Rattle.braid_outbox.specs.Writes.{last_id, with_unsent};
 

@@ -4,7 +4,6 @@ ghost use Rattle.std.specs.Prelude.{◌≡◌, ◌<◌, ◌≤◌, ◌+◌, ◌^
 ghost use Rattle.std.specs.Option.{option_copied};
 ghost use Rattle.std.specs.Ordering.{is_eq};
 ghost use Rattle.braid_ids.specs.Identifiers.{id_cmp};
-ghost use Rattle.braid_ids.specs.Frontiers.{IsRising};
 ghost use Rattle.braid_outbox.specs.Replicas.{all_of, log_of, frontier, number, greatest_number};
 ghost use Rattle.braid_outbox.specs.Writes.{last_id, merged_of, merge_parents, merges_needed, merges_of, next_merge, with_unsent};
 
@@ -32,22 +31,15 @@ impl Replica {
         self.resource.width()
     }
 
-    /// The greatest number of the agent's versions, or 0 where there is none. It looks at each update.
+    /// The greatest number of the agent's versions, or 0 where there is none.
     pub(crate) fn greatest_number(&self) -> u64
         ensures number { result ≡ greatest_number self.now.agent (log_of self.now) }
     {
-        let mut greatest: u64 = 0;
-        for n in 0..self.confirmed() + self.unsent() {
-            let Some(update) = self.entry(n) else {
-                unreachable!()
-            };
-            greatest = self.number_of(update.id()).max(greatest);
-        }
-        greatest
+        self.greatest
     }
 
     /// The number of the agent's version with this identifier, or 0 where it is none.
-    fn number_of(&self, id: &Id) -> u64
+    pub(crate) fn number_of(&self, id: &Id) -> u64
         ensures number { result ≡ unwrap_or (number self.now.agent id.now) 0 }
     {
         match self.agent.number(id) {

@@ -1,46 +1,55 @@
 //! Where a replica resumes, and what is read of all its updates.
 
-ghost use Rattle.std.specs.Prelude.{◌≡◌, ◌≤◌, IfOk, take, vec_len};
+ghost use Rattle.std.specs.Prelude.{◌≡◌, ◌↔◌, ◌<◌, ◌≤◌, ◌^◌, ℕ, List, IfOk, Contains, take, vec_len};
 ghost use Rattle.braid_ids.specs.Frontiers.{IsRising};
+ghost use Rattle.braid_graph.specs.Frontiers.{IsFrontierOf};
 ghost use Rattle.braid_text.specs.Histories.{graph_of, text_of};
 ghost use Rattle.braid_text.specs.Digested.{digest_at};
 ghost use Rattle.braid_outbox.specs.Replicas.{all_of, frontier, resume_of};
+ghost use Rattle.braid_outbox.specs.Heads.{IsHead};
 
 use crate::replica::Replica;
 use braid_change::{MOST_PARENTS, Text};
-use braid_graph::Graph;
 use braid_ids::{Frontier, Id, Memory};
 use std::alloc::Global;
 
 impl Replica {
     /// Where the replica resumes: the frontier of its confirmed updates, or the 32 least identifiers of it.
     ///
-    /// It costs a graph of the confirmed updates.
+    /// It looks at no update that came before the oldest member of that frontier.
     ///
     /// Errors: `Memory` where there was none.
     pub fn resume(&self, alloc: Global) -> Result<Frontier, Memory>
         ensures ok { IfOk result (λ at. at ≡ resume_of self.now) }
     {
-        let graph = self.confirmed_graph(alloc)?;
-        let frontier = graph.frontier(alloc)?;
+        let frontier = self.confirmed_frontier(alloc)?;
         let ids = least(alloc, &frontier)?;
         Frontier::of(ids)
     }
 
-    /// The version graph of the confirmed updates.
-    fn confirmed_graph(&self, alloc: Global) -> Result<Graph, Memory>
-        ensures ok { IfOk result (λ graph. graph ≡ graph_of self.now.confirmed) }
+    /// The frontier of the confirmed updates.
+    fn confirmed_frontier(&self, alloc: Global) -> Result<Frontier, Memory>
+        ensures ok { IfOk result (IsFrontierOf (graph_of self.now.confirmed)) }
     {
-        let mut graph = Graph::new(alloc);
-        for n in 0..self.confirmed() {
-            let Some(update) = self.entry(n) else {
+        let ids = self.head_ids(alloc)?;
+        Frontier::of(ids)
+    }
+
+    /// The identifiers of the confirmed updates that no confirmed one names as a parent, the newest first.
+    fn head_ids(&self, alloc: Global) -> Result<Vec<Id>, Memory>
+        ensures ok { IfOk result (λ ids. (v : List ℕ) → Contains ids.items v
+            ↔ IsHead (graph_of self.now.confirmed) v) }
+        ensures few { IfOk result (λ ids. vec_len ids < 2 ^ 32) }
+    {
+        let numbers = self.order.heads.numbers(alloc)?;
+        let mut ids = Vec::with_capacity(alloc, numbers.len())?;
+        for number in numbers.as_slice() {
+            let Some(update) = self.resource.entry(*number) else {
                 unreachable!()
             };
-            let id = update.id().copy(alloc)?;
-            let parents = update.parents().copy(alloc)?;
-            let _number = graph.add(id, parents)?;
+            ids.push(update.id().copy(alloc)?)?;
         }
-        Ok(graph)
+        Ok(ids)
     }
 
     /// The frontier of all updates: the identifiers that are no update's parent.

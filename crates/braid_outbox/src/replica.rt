@@ -1,24 +1,19 @@
-ghost use Rattle.std.specs.Prelude.{◌≡◌, ◌≢◌, ◌↔◌, ◌≤◌, ◌<◌, ◌++◌, ◌∷◌, [], ℕ, List, Some, IfOk, IfSome, IsTrue, Contains, length, drop, reverse, slice_get};
+ghost use Rattle.std.specs.Prelude.{◌≡◌, ◌≢◌, ◌≤◌, ◌<◌, ◌++◌, ◌∷◌, [], ℕ, List, Some, Contains, length, slice_get};
 ghost use Rattle.std.specs.Option.{option_copied};
 ghost use Rattle.braid_ids.specs.Agents.{IsAgent};
 ghost use Rattle.braid_ids.specs.Frontiers.{IsRising};
-ghost use Rattle.braid_graph.specs.Entries.{Holds, HoldsAll};
-ghost use Rattle.braid_graph.specs.Frontiers.{IsFrontierOf};
-ghost use Rattle.braid_text.specs.Histories.{graph_of, text_of};
-ghost use Rattle.braid_text.specs.Refusals.{first_missing};
+ghost use Rattle.braid_graph.specs.Entries.{HoldsAll};
+ghost use Rattle.braid_text.specs.Histories.{graph_of};
 ghost use Rattle.braid_text.specs.Answers.{answer_to, room_of};
-ghost use Rattle.braid_text.specs.Digested.{digest_at};
 ghost use Rattle.braid_text.specs.declared.accept.Accept.TheVariants.{New, Memory as NoMemory};
 ghost use Rattle.braid_outbox.specs.Replicas.{IsSound, all_of, limits_with};
 ghost use Rattle.braid_outbox.specs.Writes.{last_id, with_unsent};
 ghost use Rattle.braid_outbox.specs.Learns.{confirm, has_first, acked};
 ghost use Rattle.braid_outbox.specs.Made.{IsFine};
-ghost use Rattle.braid_outbox.specs.Standings.{Stands};
 
 use crate::order::Order;
-use crate::standing::Standing;
-use braid_change::{Text, Update};
-use braid_ids::{Agent, Frontier, Id, Memory};
+use braid_change::Update;
+use braid_ids::{Agent, Id, Memory};
 use braid_text::{Accept, REPLICA_LIMITS, Resource, Room};
 use std::alloc::Global;
 use std::marker::Model;
@@ -37,17 +32,21 @@ pub struct Replica {
     pub(crate) resource: Resource,
     /// Their arrival numbers, in the order of the two lists.
     pub(crate) order: Order,
+    /// The greatest number of the agent's versions among all updates, 0 where there is none.
+    pub(crate) greatest: u64,
 }
 
 impl Model for Replica {
     ghost use Rattle.braid_outbox.specs.Replicas.{ReplicaView};
-    ghost use Rattle.braid_outbox.specs.Kept.{IsKept, replica_in};
+    ghost use Rattle.braid_outbox.specs.Kept.{replica_in};
+    ghost use Rattle.braid_outbox.specs.Heads.{IsWhole};
 
     ghost Value = { ReplicaView };
 
     ghost view = { λ r. replica_in r.agent r.resource r.order.numbers.items r.order.confirmed };
 
-    ghost invariant = { λ r. IsKept r.agent r.resource r.order.numbers.items r.order.confirmed r.order.flags.items };
+    ghost invariant = { λ r. IsWhole r.agent r.resource r.order.numbers.items r.order.confirmed r.order.flags.items
+        r.order.heads.flags.items r.greatest };
 }
 
 impl Replica {
@@ -59,6 +58,7 @@ impl Replica {
             agent,
             resource: Resource::new(alloc),
             order: Order::new(alloc),
+            greatest: 0,
         }
     }
 
@@ -133,12 +133,16 @@ impl Replica {
     {
         read_parents(&update);
         let room = self.room(width);
+        let number = self.number_of(update.id());
+        let place = self.resource.entries();
         let Ok(()) = self.order.reserve() else {
             return Accept::Memory;
         };
         match self.resource.accept(alloc, update, &room) {
             Accept::New => {
                 self.order.add_confirmed();
+                self.order.heads.clear_parents(&self.resource, place);
+                self.greatest = self.greatest.max(number);
                 Accept::New
             }
             refusal => refusal,
@@ -155,12 +159,14 @@ impl Replica {
     {
         read_parents(&update);
         let room = self.room(width);
+        let number = self.number_of(update.id());
         let Ok(()) = self.order.reserve() else {
             return Accept::Memory;
         };
         match self.resource.accept(alloc, update, &room) {
             Accept::New => {
                 self.order.add_unsent();
+                self.greatest = self.greatest.max(number);
                 Accept::New
             }
             refusal => refusal,
@@ -172,7 +178,8 @@ impl Replica {
         requires some { 0 < length self.old.unsent }
         ensures moved { self.new ≡ confirm self.old self.old.unsent }
     {
-        self.order.confirm_first();
+        let place = self.order.confirm_first();
+        self.order.heads.clear_parents(&self.resource, place);
     }
 
     /// Confirms the first unsent update where it has this identifier, and says whether it has. It takes no memory: an

@@ -1,6 +1,5 @@
 //! Updates that a replica is given to learn, and what it tells then.
 
-ghost use Rattle.std.specs.Prelude.{◌≡◌};
 ghost use Rattle.std.specs.Prelude.{◌<◌, ◌^◌, IfOk, length};
 ghost use Rattle.braid_change.specs.Changes.{patches_of};
 

@@ -37,7 +37,7 @@ impl Replica {
     /// frontier. While the frontier has more than 32 identifiers, a pure merge is added first: an update with no patches
     /// whose parents are the last unsent version, where there is one, and the least of the others, 32 together.
     ///
-    /// It reads the text once, looks at each version for its number, and copies the change once.
+    /// It reads the text once and copies the change once.
     ///
     /// Errors: the first of `WriteFault` that holds. All but `Memory` are found before anything is added, and leave the
     /// replica as it was. At `Memory` the pure merges that were added already stay, and nothing else is changed.

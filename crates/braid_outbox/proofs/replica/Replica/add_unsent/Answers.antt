@@ -1,28 +1,35 @@
-use Rattle.std.proofs.Common.{refl}
+use Rattle.std.proofs.Common.{refl, sym, unwrap_or, ◌∙◌}
+use Rattle.braid_outbox.specs.Replicas.{number}
+use Rattle.braid_outbox.proofs.Wholes.{whole_unsent}
 use Rattle.braid_outbox.proofs.Calls.{room_fits, answer_now, unsent_view, unsent_next, same_view}
 use Rattle.braid_outbox.proofs.replica.Replica.add_unsent.Goals as goal
 
 pub accept-requires-clause-versions : goal.accept-requires-clause-versions
-accept-requires-clause-versions c = (room_fits _ _ _ _ _ c.self.invariant _ c.self.view_is _ _ c.room-room.ensures.room).0
+accept-requires-clause-versions c = (room_fits _ _ _ _ _ c.self.invariant.kept _ c.self.view_is _ _ c.room-room.ensures.room).0
 
 pub accept-requires-clause-elements : goal.accept-requires-clause-elements
-accept-requires-clause-elements c = (room_fits _ _ _ _ _ c.self.invariant _ c.self.view_is _ _ c.room-room.ensures.room).1
+accept-requires-clause-elements c = (room_fits _ _ _ _ _ c.self.invariant.kept _ c.self.view_is _ _ c.room-room.ensures.room).1
 
 pub accept-requires-clause-deletions : goal.accept-requires-clause-deletions
-accept-requires-clause-deletions c = (room_fits _ _ _ _ _ c.self.invariant _ c.self.view_is _ _ c.room-room.ensures.room).2
+accept-requires-clause-deletions c = (room_fits _ _ _ _ _ c.self.invariant.kept _ c.self.view_is _ _ c.room-room.ensures.room).2
 
 pub invariant_of-self-in-New : goal.invariant_of-self-in-New
-invariant_of-self-in-New c = unsent_next _ _ _ _ _ c.self.invariant _ c.self.view_is _ _ _ _ _ _ _ _ _ _ (c.in-New.ensures.taken refl) c.reserve.ensures.numbers c.reserve.ensures.confirmed c.reserve.ensures.flags c.add_unsent.ensures.numbers c.add_unsent.ensures.confirmed c.add_unsent.ensures.flags c.room-room.ensures.room c.in-New.ensures.answer c.requires.chained
+invariant_of-self-in-New c = whole_unsent _ _ _ _ _ _ _ c.self.invariant _ _ _ _ _
+    (unsent_next _ _ _ _ _ c.self.invariant.kept _ c.self.view_is _ _ _ _ _ _ _ _ _ _ (c.in-New.ensures.taken refl) c.reserve.ensures.numbers c.reserve.ensures.confirmed c.reserve.ensures.flags c.add_unsent.ensures.numbers c.add_unsent.ensures.confirmed c.add_unsent.ensures.flags c.room-room.ensures.room c.in-New.ensures.answer c.requires.chained)
+    (c.in-New.ensures.taken refl) c.in-New.ensures.answer.0
+    (unsent_view _ _ _ _ _ c.self.invariant.kept _ refl _ _ _ _ _ _ (c.in-New.ensures.taken refl) c.reserve.ensures.numbers c.reserve.ensures.confirmed c.add_unsent.ensures.numbers c.add_unsent.ensures.confirmed)
+    _ _ c.reserve.ensures.heads c.add_unsent.ensures.heads _ _
+    (c.number_of-number.ensures.number ∙ (λ i. unwrap_or (number ((sym c.self.view_is i).agent) (c.id.ensures.value i)) 0)) c.max-self-inside.ensures
 
 pub returns-in-New-clause-answer : goal.returns-in-New-clause-answer
-returns-in-New-clause-answer c = λ n. answer_now _ _ _ _ _ c.self.invariant _ c.self.view_is _ _ _ _ c.room-room.ensures.room c.read_parents.ensures.rising c.in-New.ensures.answer n
+returns-in-New-clause-answer c = λ n. answer_now _ _ _ _ _ c.self.invariant.kept _ c.self.view_is _ _ _ _ c.room-room.ensures.room c.read_parents.ensures.rising c.in-New.ensures.answer n
 
 pub returns-in-New-clause-taken : goal.returns-in-New-clause-taken
-returns-in-New-clause-taken c = λ n. unsent_view _ _ _ _ _ c.self.invariant _ c.self.view_is _ _ _ _ _ _ (c.in-New.ensures.taken refl) c.reserve.ensures.numbers c.reserve.ensures.confirmed c.add_unsent.ensures.numbers c.add_unsent.ensures.confirmed
+returns-in-New-clause-taken c = λ n. unsent_view _ _ _ _ _ c.self.invariant.kept _ c.self.view_is _ _ _ _ _ _ (c.in-New.ensures.taken refl) c.reserve.ensures.numbers c.reserve.ensures.confirmed c.add_unsent.ensures.numbers c.add_unsent.ensures.confirmed
 
 pub returns-in_default-accept : goal.returns-in_default-accept
 returns-in_default-accept c = record {
-  answer = λ n. answer_now _ _ _ _ _ c.self.invariant _ c.self.view_is _ _ _ _ c.room-room.ensures.room c.read_parents.ensures.rising c.accept.ensures.answer n;
+  answer = λ n. answer_now _ _ _ _ _ c.self.invariant.kept _ c.self.view_is _ _ _ _ c.room-room.ensures.room c.read_parents.ensures.rising c.accept.ensures.answer n;
   taken = λ t. absurd (c.in_default-accept.not-New t);
-  kept = λ n. same_view _ _ _ _ _ c.self.invariant _ c.self.view_is _ _ _ (c.accept.ensures.kept n) c.reserve.ensures.numbers c.reserve.ensures.confirmed;
+  kept = λ n. same_view _ _ _ _ _ c.self.invariant.kept _ c.self.view_is _ _ _ (c.accept.ensures.kept n) c.reserve.ensures.numbers c.reserve.ensures.confirmed;
 }

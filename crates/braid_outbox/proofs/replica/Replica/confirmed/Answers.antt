@@ -6,10 +6,10 @@ use Rattle.braid_outbox.proofs.ReadNow.{few_now}
 use Rattle.braid_outbox.proofs.replica.Replica.confirmed.Goals as goal
 
 pub returns-clause-count : goal.returns-clause-count
-returns-clause-count c = sym (confirmed_length _ _ _ _ _ c.self.invariant) ∙ ap (λ (r : ReplicaView). length r.confirmed) c.self.view_is
+returns-clause-count c = sym (confirmed_length _ _ _ _ _ c.self.invariant.kept) ∙ ap (λ (r : ReplicaView). length r.confirmed) c.self.view_is
 
 pub returns-clause-few : goal.returns-clause-few
-returns-clause-few c = few_now _ _ _ _ _ c.self.invariant _ c.self.view_is
+returns-clause-few c = few_now _ _ _ _ _ c.self.invariant.kept _ c.self.view_is
 
 pub returns-clause-fine : goal.returns-clause-fine
-returns-clause-fine c = fine_now _ _ _ _ _ c.self.invariant _ c.self.view_is
+returns-clause-fine c = fine_now _ _ _ _ _ c.self.invariant.kept _ c.self.view_is
