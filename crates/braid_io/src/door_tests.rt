@@ -65,10 +65,9 @@ fn link_of(alloc: Global, text: &[u8], fails: &[u64]) -> Result<MemLink, Memory>
 fn two_links(alloc: Global) -> Result<Vec<MemLink>, Memory>
     ensures ok { IfOk result (λ links. All IsUnused links.items) }
 {
-    let mut links = Vec::new(alloc);
-    links.push(link_of(alloc, b"abcd", &[])?)?;
-    links.push(link_of(alloc, b"e", &[0, 1])?)?;
-    Ok(links)
+    let first = link_of(alloc, b"abcd", &[])?;
+    let second = link_of(alloc, b"e", &[0, 1])?;
+    Ok(Vec::from_array(alloc, [first, second])?)
 }
 
 /// A door with two links whose second accept fails, and a bell that answers twice.
@@ -115,9 +114,9 @@ fn a_door_keeps_the_links_put_back(rt: HostRuntime) -> Result<(), Fail> {
 
 /// A port with two pairs.
 fn port_of(alloc: Global) -> Result<MemPort, Memory> {
-    let mut pairs = Vec::new(alloc);
-    pairs.push(pair_of(alloc)?)?;
-    pairs.push(pair_of(alloc)?)?;
+    let first = pair_of(alloc)?;
+    let second = pair_of(alloc)?;
+    let pairs = Vec::from_array(alloc, [first, second])?;
     Ok(MemPort::new(alloc, pairs, Vec::new(alloc)))
 }
 
@@ -190,7 +189,7 @@ fn a_dialer_keeps_the_links_hung_up(rt: HostRuntime) -> Result<(), Fail> {
 /// Whether a load gives these bytes, or nothing where there are none.
 fn gives(keeper: &mut MemKeeper, alloc: Global, name: &Word, kept: Option<&[u8]>) -> bool {
     match keeper.load(alloc, name) {
-        Loaded::Bytes(bytes) => kept.is_some_and(|k| bytes.get() == k),
+        Loaded::Bytes(bytes) => kept == Some(bytes.get()),
         Loaded::Nothing => kept.is_none(),
         Loaded::Failed | Loaded::Memory => false,
     }

@@ -1,5 +1,5 @@
 use super::*;
-use braid_ids::Bytes;
+use braid_ids::{Bytes, after};
 use std::alloc::Global;
 use std::fs::File;
 use std::io;
@@ -61,22 +61,13 @@ fn reads<S: Source>(source: &mut S, size: usize, answers: &[Read], bytes: &[u8])
             return false;
         }
         if let Read::Got(n) = read {
-            match after_front(rest, &buf[..n]) {
+            match after(&buf[..n], rest) {
                 Some(after) => rest = after,
                 None => return false,
             }
         }
     }
     rest.is_empty()
-}
-
-/// What follows these first bytes, where they are the first.
-fn after_front<'a>(bytes: &'a [u8], front: &[u8]) -> Option<&'a [u8]> {
-    if bytes.get(..front.len())? == front {
-        bytes.get(front.len()..)
-    } else {
-        None
-    }
 }
 
 /// Whether a source in memory has given this, has nothing left, and counted so many calls and faults.
@@ -130,10 +121,15 @@ fn a_source_in_memory_gives_pieces_and_fails_where_told(rt: HostRuntime) {
     }
 }
 
+/// Writes a piece, which is not empty. Whether the answer came.
+fn takes_one(sink: &mut MemSink, piece: &[u8], answer: Wrote) -> bool {
+    !piece.is_empty() && sink.write(piece) == answer
+}
+
 /// Writes the pieces, each of which is not empty. Whether the answers came.
 fn takes(sink: &mut MemSink, pieces: &[&[u8]], answers: &[Wrote]) -> bool {
     for (piece, answer) in pieces.iter().zip(answers) {
-        if piece.is_empty() || sink.write(piece) != *answer {
+        if !takes_one(sink, piece, *answer) {
             return false;
         }
     }
@@ -202,14 +198,18 @@ enum Call {
     Writes(Wrote),
 }
 
+/// Whether a link answers a call so.
+fn comes(link: &mut MemLink, call: Call) -> bool {
+    match call {
+        Call::Reads(answer) => link.read(&mut [0u8; 3]) == answer,
+        Call::Writes(answer) => link.write(b"xyz") == answer,
+    }
+}
+
 /// Whether a link answers the calls so.
 fn is_called(link: &mut MemLink, calls: &[Call]) -> bool {
     for call in calls {
-        let came = match call {
-            Call::Reads(answer) => link.read(&mut [0u8; 3]) == *answer,
-            Call::Writes(answer) => link.write(b"xyz") == *answer,
-        };
-        if !came {
+        if !comes(link, *call) {
             return false;
         }
     }
@@ -324,16 +324,17 @@ fn is_written_so(
     Some(came && sink.written() == written && sink.calls() == calls)
 }
 
+/// A room, the calls that fail, the bytes, the answer, what was written, and the calls.
+const WRITES: [(usize, &[u64], &[u8], Result<(), WriteEnd>, &[u8], u64); 4] = [
+    (9, &[], b"abcde", Ok(()), b"abcde", 1),
+    (3, &[], b"abcde", Err(WriteEnd::WriteFault), b"abc", 2),
+    (9, &[0], b"abcde", Err(WriteEnd::WriteFault), b"", 1),
+    (0, &[0], b"", Ok(()), b"", 0),
+];
+
 #[test]
 fn write_all_writes_all_or_a_prefix(rt: HostRuntime) {
-    let fault = Err(WriteEnd::WriteFault);
-    let rows: [(usize, &[u64], &[u8], Result<(), WriteEnd>, &[u8], u64); 4] = [
-        (9, &[], b"abcde", Ok(()), b"abcde", 1),
-        (3, &[], b"abcde", fault, b"abc", 2),
-        (9, &[0], b"abcde", fault, b"", 1),
-        (0, &[0], b"", Ok(()), b"", 0),
-    ];
-    for (room, fails, bytes, answer, written, calls) in rows {
+    for (room, fails, bytes, answer, written, calls) in WRITES {
         let came = is_written_so(rt.alloc(), room, fails, bytes, answer, written, calls);
         assert!(rt; came == Some(true));
     }
@@ -447,17 +448,19 @@ fn a_sink_writes_a_real_pipe_and_file(rt: HostRuntime) {
     assert!(rt; taken && held && is_unwritable(&rt));
 }
 
+/// Statuses and their codes.
+const STATUSES: [(Status, u8); 6] = [
+    (Status::Done, 0),
+    (Status::Bad, 1),
+    (Status::Usage, 2),
+    (Status::Outside, 3),
+    (Status::Memory, 4),
+    (Status::Cut, 5),
+];
+
 #[test]
 fn statuses_are_0_to_5(rt: HostRuntime) {
-    let rows = [
-        (Status::Done, 0),
-        (Status::Bad, 1),
-        (Status::Usage, 2),
-        (Status::Outside, 3),
-        (Status::Memory, 4),
-        (Status::Cut, 5),
-    ];
-    for (status, code) in rows {
+    for (status, code) in STATUSES {
         assert!(rt; status.code() == code);
     }
 }
