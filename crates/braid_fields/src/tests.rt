@@ -36,49 +36,50 @@ pub(crate) fn answers_behind(alloc: Global, lines: &str, reason: Option<Reason>)
     }
 }
 
+/// Lines, and the field of each.
+const FIELD_LINES: [(&[u8], Option<(&[u8], &[u8])>); 14] = [
+    (b"A:b\n", Some((b"A", b"b"))),
+    (b"A:b\r\n", Some((b"A", b"b"))),
+    (b"A: \t b c \t\r\n", Some((b"A", b"b c"))),
+    (b"A:\n", Some((b"A", b""))),
+    (b"a!#$%&'*+-.^_`|~9::\n", Some((b"a!#$%&'*+-.^_`|~9", b":"))),
+    (b"A:\x80\xff\n", Some((b"A", b"\x80\xff"))),
+    (b"A:b\r\r\n", None),
+    (b"A:b\x7f\n", None),
+    (b"A:\x1f\n", None),
+    (b"A b:c\n", None),
+    (b":c\n", None),
+    (b"A\n", None),
+    (b"A:b", None),
+    (b"\n", None),
+];
+
 #[test]
 fn a_field_line_is_a_name_a_colon_and_a_value(rt: HostRuntime) {
-    let rows = [
-        (
-            b"A:b\n".as_slice(),
-            Some((b"A".as_slice(), b"b".as_slice())),
-        ),
-        (b"A:b\r\n", Some((b"A", b"b"))),
-        (b"A: \t b c \t\r\n", Some((b"A", b"b c"))),
-        (b"A:\n", Some((b"A", b""))),
-        (b"a!#$%&'*+-.^_`|~9::\n", Some((b"a!#$%&'*+-.^_`|~9", b":"))),
-        (b"A:\x80\xff\n", Some((b"A", b"\x80\xff"))),
-        (b"A:b\r\r\n", None),
-        (b"A:b\x7f\n", None),
-        (b"A:\x1f\n", None),
-        (b"A b:c\n", None),
-        (b":c\n", None),
-        (b"A\n", None),
-        (b"A:b", None),
-        (b"\n", None),
-    ];
-    for (line, field) in rows {
+    for (line, field) in FIELD_LINES {
         assert!(rt; read_field(line) == field);
     }
 }
 
+/// Lines, whether each begins as a status line, and whether it is a good one.
+const STATUS_LINES: [(&[u8], bool, bool); 12] = [
+    (b"HTTP 200\n", true, true),
+    (b"HTTP/1.1 200 OK\r\n", true, true),
+    (b"HTTP 200 \x00\xff\r\r\n", true, true),
+    (b"HTTP/1.1 200\r\n", true, true),
+    (b"HTTP/1.1 200OK\n", true, false),
+    (b"HTTP/1.0 200\n", true, false),
+    (b"HTTP  200\n", true, false),
+    (b"HTTP 404 Not Found\r\n", true, false),
+    (b"HTTP/\n", true, false),
+    (b"HTTP\n", false, false),
+    (b"http 200\n", false, false),
+    (b"HTTPS: 1\n", false, false),
+];
+
 #[test]
 fn a_status_line_has_one_form(rt: HostRuntime) {
-    let rows = [
-        (b"HTTP 200\n".as_slice(), true, true),
-        (b"HTTP/1.1 200 OK\r\n", true, true),
-        (b"HTTP 200 \x00\xff\r\r\n", true, true),
-        (b"HTTP/1.1 200\r\n", true, true),
-        (b"HTTP/1.1 200OK\n", true, false),
-        (b"HTTP/1.0 200\n", true, false),
-        (b"HTTP  200\n", true, false),
-        (b"HTTP 404 Not Found\r\n", true, false),
-        (b"HTTP/\n", true, false),
-        (b"HTTP\n", false, false),
-        (b"http 200\n", false, false),
-        (b"HTTPS: 1\n", false, false),
-    ];
-    for (line, taken, good) in rows {
+    for (line, taken, good) in STATUS_LINES {
         let found = [is_status(line), is_good_status(line), is_empty_line(line)];
         assert!(rt; found == [taken, good, false]);
     }
@@ -170,25 +171,29 @@ fn slashes_are(alloc: Global, n: usize) -> Option<[bool; 2]> {
     Some([is_path(&slashes), is_server(&slashes)])
 }
 
+/// Numbers of slashes, and whether so many are a path, and a server.
+const SLASHES: [(usize, [bool; 2]); 4] = [
+    (255, [true, true]),
+    (256, [true, false]),
+    (1_024, [true, false]),
+    (1_025, [false, false]),
+];
+
+/// Bytes, and whether they are a path, and a server.
+const SIGNS: [(&[u8], [bool; 2]); 5] = [
+    (b"/-._~!$&'()*+,;=:@%/?aZ09", [true, true]),
+    (b"/#", [false, true]),
+    (b"", [false, false]),
+    (b" /", [false, false]),
+    (b"\x7f", [false, false]),
+];
+
 #[test]
 fn servers_and_paths_have_their_limits(rt: HostRuntime) {
-    let longest = [
-        (255, [true, true]),
-        (256, [true, false]),
-        (1_024, [true, false]),
-        (1_025, [false, false]),
-    ];
-    for (n, answers) in longest {
+    for (n, answers) in SLASHES {
         assert!(rt; slashes_are(rt.alloc(), n) == Some(answers));
     }
-    let signs: [(&[u8], [bool; 2]); 5] = [
-        (b"/-._~!$&'()*+,;=:@%/?aZ09", [true, true]),
-        (b"/#", [false, true]),
-        (b"", [false, false]),
-        (b" /", [false, false]),
-        (b"\x7f", [false, false]),
-    ];
-    for (bytes, answers) in signs {
+    for (bytes, answers) in SIGNS {
         let found = [is_path(bytes), is_server(bytes)];
         assert!(rt; found == answers);
     }
