@@ -109,31 +109,35 @@ fn makes_of_hello(
     })
 }
 
+/// Patches, and what they make of `hello`.
+const MADE: [(&[(u32, u32, &str)], &str); 6] = [
+    (&[(0, 1, "J"), (5, 5, "!")], "Jello!"),
+    (&[(1, 1, "x"), (1, 3, "y")], "hxylo"),
+    (&[(0, 5, "")], ""),
+    (&[(1, 2, ""), (2, 3, "ü"), (3, 3, "€")], "hü€lo"),
+    (&[(5, 5, " you")], "hello you"),
+    (&[], "hello"),
+];
+
 #[test]
 fn patches_replace_ranges(rt: HostRuntime) {
-    let rows: [(&[(u32, u32, &str)], &str); 6] = [
-        (&[(0, 1, "J"), (5, 5, "!")], "Jello!"),
-        (&[(1, 1, "x"), (1, 3, "y")], "hxylo"),
-        (&[(0, 5, "")], ""),
-        (&[(1, 2, ""), (2, 3, "ü"), (3, 3, "€")], "hü€lo"),
-        (&[(5, 5, " you")], "hello you"),
-        (&[], "hello"),
-    ];
-    for (patches, want) in rows {
+    for (patches, want) in MADE {
         let made = makes_of_hello(rt.alloc(), patches, Ok(want));
         assert!(rt; made == Some(true));
     }
 }
 
+/// Patches, and the first joined one that is past the end of `hello`.
+const PAST_THE_END: [(&[(u32, u32, &str)], u32); 4] = [
+    (&[(0, 6, "")], 0),
+    (&[(0, 1, ""), (1, 1, ""), (1, 6, "")], 1),
+    (&[(0, 1, ""), (1, 1, ""), (1, 5, ""), (9, 9, "")], 2),
+    (&[(6, 6, ""), (6, 7, "")], 0),
+];
+
 #[test]
 fn the_first_joined_patch_past_the_end_is_named(rt: HostRuntime) {
-    let rows: [(&[(u32, u32, &str)], u32); 4] = [
-        (&[(0, 6, "")], 0),
-        (&[(0, 1, ""), (1, 1, ""), (1, 6, "")], 1),
-        (&[(0, 1, ""), (1, 1, ""), (1, 5, ""), (9, 9, "")], 2),
-        (&[(6, 6, ""), (6, 7, "")], 0),
-    ];
-    for (patches, patch) in rows {
+    for (patches, patch) in PAST_THE_END {
         let fault = SpliceFault::OutOfRange { patch, len: 5 };
         let made = makes_of_hello(rt.alloc(), patches, Err(fault));
         assert!(rt; made == Some(true));
@@ -168,25 +172,27 @@ fn is_fault(alloc: Global, rows: &[(u32, u32, &str)], fault: BuildFault) -> bool
     )
 }
 
+/// Patches, and the fault of the first that has one.
+const FAULTS: [(&[(u32, u32, &str)], BuildFault); 5] = [
+    (&[(2, 4, ""), (3, 5, "")], BuildFault::Overlap { patch: 1 }),
+    (&[(4, 2, "")], BuildFault::Backwards { patch: 0 }),
+    (
+        &[(0, 1, ""), (3, 2, ""), (9, 8, "")],
+        BuildFault::Backwards { patch: 1 },
+    ),
+    (
+        &[(3, 3, ""), (2, 2, ""), (5, 4, "")],
+        BuildFault::Backwards { patch: 2 },
+    ),
+    (
+        &[(1, 2, ""), (2, 2, ""), (1, 3, ""), (0, 9, "")],
+        BuildFault::Overlap { patch: 2 },
+    ),
+];
+
 #[test]
 fn faults_of_patches_name_the_first(rt: HostRuntime) {
-    let rows: [(&[(u32, u32, &str)], BuildFault); 5] = [
-        (&[(2, 4, ""), (3, 5, "")], BuildFault::Overlap { patch: 1 }),
-        (&[(4, 2, "")], BuildFault::Backwards { patch: 0 }),
-        (
-            &[(0, 1, ""), (3, 2, ""), (9, 8, "")],
-            BuildFault::Backwards { patch: 1 },
-        ),
-        (
-            &[(3, 3, ""), (2, 2, ""), (5, 4, "")],
-            BuildFault::Backwards { patch: 2 },
-        ),
-        (
-            &[(1, 2, ""), (2, 2, ""), (1, 3, ""), (0, 9, "")],
-            BuildFault::Overlap { patch: 2 },
-        ),
-    ];
-    for (patches, fault) in rows {
+    for (patches, fault) in FAULTS {
         assert!(rt; is_fault(rt.alloc(), patches, fault));
     }
 }
@@ -343,17 +349,19 @@ fn is_same_change(alloc: Global, other: Option<Change>) -> Option<bool> {
     Some(change.same(&other?))
 }
 
+/// Patches, and whether they are the same change as two patches.
+const ALIKE: [(&[(u32, u32, &str)], bool); 5] = [
+    (&[(1, 1, "x"), (1, 3, "y")], true),
+    (&[(1, 3, "xy")], false),
+    (&[(1, 1, "x"), (1, 2, "y")], false),
+    (&[(1, 1, "x"), (1, 3, "z")], false),
+    (&[], false),
+];
+
 #[test]
 fn changes_are_the_same_as_listed(rt: HostRuntime) {
     let alloc = rt.alloc();
-    let rows: [(&[(u32, u32, &str)], bool); 5] = [
-        (&[(1, 1, "x"), (1, 3, "y")], true),
-        (&[(1, 3, "xy")], false),
-        (&[(1, 1, "x"), (1, 2, "y")], false),
-        (&[(1, 1, "x"), (1, 3, "z")], false),
-        (&[], false),
-    ];
-    for (row, same) in rows {
+    for (row, same) in ALIKE {
         assert!(rt; is_same_change(alloc, change_of(alloc, row)) == Some(same));
     }
     assert!(rt; is_same_change(alloc, body_of(alloc, "xy")) == Some(false));
