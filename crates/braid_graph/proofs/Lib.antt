@@ -16,3 +16,4 @@ pub mod RunsKept
 pub mod Fronts
 pub mod RunPieces
 pub mod Whole
+pub mod KnownMarks

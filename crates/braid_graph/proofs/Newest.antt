@@ -18,7 +18,7 @@ pub id_entry : (v : List ℕ) (es : List GraphEntry) → Member v (ids_of es) �
 id_entry v es m = member_from_map (λ (t : GraphEntry). t.id) v es m
 
 -- a history without its newest entry, and what that entry meets
-front_history : (es : List GraphEntry) (e : GraphEntry) → IsHistoryGraph (es ++ e ∷ []) → IsHistoryGraph es
+pub front_history : (es : List GraphEntry) (e : GraphEntry) → IsHistoryGraph (es ++ e ∷ []) → IsHistoryGraph es
 front_history es e h = record {
   distinct = λ n d at held. h.distinct n d (kept_place es (e ∷ []) n d at) (subst (λ (t : List GraphEntry). Holds t d.id) (sym (front n d at)) held);
   parents_first = λ n d at p c. subst (λ (t : List GraphEntry). Holds t p) (front n d at) (h.parents_first n d (kept_place es (e ∷ []) n d at) p c);
@@ -27,7 +27,7 @@ front_history es e h = record {
     front : (n : ℕ) (d : GraphEntry) → slice_get es n ≡ Some d → take n (es ++ e ∷ []) ≡ take n es
     front n d at = take-append-le n es (e ∷ []) (let l = slice_get_within es n d at in omega arith)
 
-newest_new : (es : List GraphEntry) (e : GraphEntry) → IsHistoryGraph (es ++ e ∷ []) → Holds es e.id → ⊥
+pub newest_new : (es : List GraphEntry) (e : GraphEntry) → IsHistoryGraph (es ++ e ∷ []) → Holds es e.id → ⊥
 newest_new es e h held = h.distinct (length es) e (slice_get_push es e) (subst (λ (t : List GraphEntry). Holds t e.id) (sym (take_at es (e ∷ []) (length es) refl)) held)
 
 newest_parents : (es : List GraphEntry) (e : GraphEntry) → IsHistoryGraph (es ++ e ∷ []) → HoldsAll es e.parents

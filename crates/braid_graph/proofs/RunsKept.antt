@@ -16,7 +16,7 @@ use Rattle.braid_graph.proofs.Kept.{zip_length}
 use Rattle.braid_graph.proofs.Collected.{ids_length}
 
 -- what stands at a place of a list with one more
-at_push : {A : Type 0} (xs : List A) (y : A) (n : ℕ) (x : A) → slice_get (xs ++ y ∷ []) n ≡ Some x → (slice_get xs n ≡ Some x) ⊎ ((n ≡ length xs) × (y ≡ x))
+pub at_push : {A : Type 0} (xs : List A) (y : A) (n : ℕ) (x : A) → slice_get (xs ++ y ∷ []) n ≡ Some x → (slice_get xs n ≡ Some x) ⊎ ((n ≡ length xs) × (y ≡ x))
 at_push xs y n x at = elim (cases_lt n (length xs)) [
   | inl l ↦ inl (sym (slice_get-append_left xs (y ∷ []) n l) ∙ at)
   | inr g ↦

@@ -1,14 +1,15 @@
 -- What a graph keeps beside its entries.
-use Rattle.std.specs.Prelude.{◌≡◌, ◌≤◌, ◌<◌, ◌↔◌, ◌⊎◌, ◌+◌, ◌==◌, ℕ, List, [], ◌∷◌, ◌++◌, Bool, true, false, Option, Some, None, map, fold, length, slice_get, slice_set, if◌then◌else◌, Contains}
+use Rattle.std.specs.Prelude.{All, ◌≡◌, ◌≤◌, ◌<◌, ◌↔◌, ◌⊎◌, ◌+◌, ◌==◌, ℕ, List, [], ◌∷◌, ◌++◌, Bool, true, false, Option, Some, None, map, fold, length, slice_get, slice_set, if◌then◌else◌, Contains}
 use Rattle.std.specs.List.{AllZip}
 use Rattle.std.specs.Ordering.{is_lt}
 use Rattle.braid_ids.specs.Identifiers.{id_cmp}
 use Rattle.braid_ids.specs.MarkSets.{IsMarked}
 use Rattle.braid_graph.specs.Entries.{GraphEntry, ids_of, HoldsAll, IsHistoryGraph}
-use Rattle.braid_graph.specs.Ancestries.{IsAncestor, IsLeastUnheld}
+use Rattle.braid_graph.specs.Ancestries.{IsAncestor, IsLeastUnheld, MarksAncestry}
 use Rattle.braid_graph.specs.Levels.{level_of}
 use Rattle.braid_graph.specs.Frontiers.{is_head}
 use Rattle.braid_graph.specs.Runs.{goes_on, starts_of, runs_of}
+use Rattle.braid_graph.specs.declared.known.Known.{Known}
 use Rattle.braid_graph.specs.declared.links.Links.{Links}
 
 -- the entries of a map from identifiers to parents
@@ -84,6 +85,23 @@ pub record KeepsRuns (es : List GraphEntry) (links : List Links) (starts : List 
 pub record IsWhole (es : List GraphEntry) (links : List Links) (flags : List Bool) (starts : List ℕ) : Type 0 where
   pub kept : IsKept es links flags
   pub runs : KeepsRuns es links starts
+
+-- the ancestry that is kept of an entry
+pub record IsKnown (es : List GraphEntry) (k : Known) : Type 0 where
+  pub id : List ℕ
+  pub number : IsNumberOf es id k.of
+  pub size : length k.marks ≤ length es
+  pub exact : (n : ℕ) (e : GraphEntry) → slice_get es n ≡ Some e → IsMarked k.marks n ↔ IsAncestor es (id ∷ []) e.id
+
+abbrev pub AreKnown : List GraphEntry → List Known → Type 0
+AreKnown es ks = All (IsKnown es) ks
+
+-- marked is the ancestry of the parents of the newest entry, among those before it
+pub record MarksPast (es : List GraphEntry) (marks : List Bool) : Type 0 where
+  pub front : List GraphEntry
+  pub newest : GraphEntry
+  pub all : es ≡ front ++ newest ∷ []
+  pub past : MarksAncestry front newest.parents marks
 
 -- m is n, or stands before it in its run: nothing behind m and up to n begins a run
 pub record IsBehind (es : List GraphEntry) (n m : ℕ) : Type 0 where

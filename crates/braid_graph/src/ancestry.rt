@@ -1,20 +1,28 @@
 //! The ancestry of a frontier, run by run.
 
-ghost use Rattle.std.specs.Prelude.{◌≡◌, ◌<◌, ◌≤◌, ◌++◌, ◌+◌, ◌↔◌, List, ℕ, length, replicate, IfOk, IfErr, OnOk, IsTrue};
+ghost use Rattle.std.specs.Prelude.{◌≡◌, ◌<◌, ◌≤◌, ◌++◌, ◌+◌, ◌↔◌, List, ℕ, length, replicate, IfOk, IfErr, IfSome, OnOk, IsTrue};
 ghost use Rattle.braid_ids.specs.MarkSets.{IsMarked, pieces_of};
 ghost use Rattle.braid_graph.specs.Entries.{HoldsAll};
 ghost use Rattle.braid_graph.specs.Ancestries.{Covers, MarksAncestry, IsUnknown, NamesUnknown};
 ghost use Rattle.braid_graph.specs.Runs.{starts_of, runs_of};
-ghost use Rattle.braid_graph.specs.Inside.{IsParentNumber, AllMarked, AreEnds, IsReached, Reaches, ReachesMore};
+ghost use Rattle.braid_graph.specs.Inside.{IsParentNumber, AllMarked, AreEnds, IsReached, MarksPast, Reaches, ReachesMore};
 
 use crate::graph::Graph;
+use crate::known::{Known, place_of};
 use braid_ids::{Frontier, Id, Marks, Memory, Unknown};
 use std::alloc::Global;
+
+/// Of how many entries at most the ancestry is kept.
+const MOST_KNOWN: usize = 4;
+
+/// While its entry is one of this many newest, an ancestry that is kept gives way to no other.
+const LATELY: usize = 16;
 
 impl Graph {
     /// The arrival numbers of the ancestry of a frontier: of its members, their parents, their parents' parents and so on.
     ///
-    /// It takes time linear in the runs and the parents of what begins them, and constant time for the newest frontier.
+    /// It takes time linear in the runs and the parents of what begins them, constant time for the newest frontier, and time
+    /// linear in the ranges of the answer for an identifier whose ancestry is kept.
     /// The answer has at most as many ranges as there are runs.
     ///
     /// Errors: `Unknown::Id` where a member of the frontier is not held, with the least that is not; `Unknown::Memory`
@@ -62,7 +70,78 @@ impl Graph {
         if self.heads_among(of) == self.width() {
             return self.all_numbers(alloc);
         }
-        self.walked(alloc, of)
+        match self.kept(alloc, of) {
+            Some(marks) => Ok(marks),
+            None => self.walked(alloc, of),
+        }
+    }
+
+    /// The same of a frontier with one member, where its ancestry is kept and there is memory for a copy.
+    fn kept(&self, alloc: Global, of: &Frontier) -> Option<Marks>
+        requires held { HoldsAll self.now of.now }
+        ensures ok { IfSome result (λ marks. MarksAncestry self.now of.now marks) }
+    {
+        if of.len() != 1 {
+            return None;
+        }
+        let n = self.number_of(of, 0);
+        let Some(i) = place_of(&self.known, n) else {
+            return None;
+        };
+        let Ok(mut marks) = self.known[i].marks.copy(alloc) else {
+            return None;
+        };
+        marks.widen(self.entries.len() as u32);
+        Some(marks)
+    }
+
+    /// The ancestry of a new entry's parents, where those that go on from the entry will want it: where it is kept, or has
+    /// to be walked. What was kept is given away.
+    pub(crate) fn take_past(&mut self, parents: &Frontier) -> Option<Marks>
+        requires held { HoldsAll self.old parents.now }
+        ensures ok { IfSome result (λ marks. MarksAncestry self.old parents.now marks) }
+        ensures same { self.new ≡ self.old }
+    {
+        if parents.len() != 1 {
+            return None;
+        }
+        let n = self.number_of(parents, 0);
+        if let Some(i) = place_of(&self.known, n) {
+            let Known { of: _of, mut marks } = self.known.remove(i);
+            marks.widen(self.entries.len() as u32);
+            return Some(marks);
+        }
+        if n as usize + 1 == self.entries.len() {
+            return None;
+        }
+        // Where entries go on from more ancestries in turns than are kept, those that are kept stay.
+        if self.known.len() >= MOST_KNOWN
+            && self.known[0].of as usize + LATELY >= self.entries.len()
+        {
+            return None;
+        }
+        match self.walked(self.alloc, parents) {
+            Ok(marks) => Some(marks),
+            Err(_) => None,
+        }
+    }
+
+    /// Keeps the ancestry of the newest entry, by that of its parents. Without memory nothing is kept.
+    pub(crate) fn keep_past(&mut self, past: Marks)
+        requires past { MarksPast self.old past }
+        ensures same { self.new ≡ self.old }
+    {
+        let size = self.entries.len() as u32;
+        let of = size - 1;
+        let mut marks = past;
+        marks.widen(size);
+        if marks.add(of, size).is_err() {
+            return;
+        }
+        if self.known.len() >= MOST_KNOWN {
+            self.known.remove(0);
+        }
+        let _ = self.known.push(Known { of, marks });
     }
 
     /// Each arrival number.

@@ -10,6 +10,7 @@ ghost use Rattle.braid_graph.specs.Runs.{runs_of};
 ghost use Rattle.braid_graph.specs.Inside.{IsNumberOf, IsLeastOf, IsRunAfter, begun, lesser_of};
 
 use crate::heads::Heads;
+use crate::known::Known;
 use crate::links::Links;
 use braid_ids::{Frontier, Id, Memory};
 use indexmap::IndexMap;
@@ -18,26 +19,29 @@ use std::alloc::Global;
 use std::marker::Model;
 
 /// A version graph: versions with their parents, in order of arrival, each parent before its children.
+///
+/// `known` has the ancestries of the last entries of a few branches that arrive in turns.
 #[derive(Drop)]
 pub struct Graph {
     pub(crate) entries: IndexMap<Id, Frontier>,
     pub(crate) links: Vec<Links>,
     heads: Heads,
     pub(crate) starts: Vec<u32>,
-    alloc: Global,
+    pub(crate) known: Vec<Known>,
+    pub(crate) alloc: Global,
 }
 
 impl Model for Graph {
     ghost use Rattle.std.specs.Prelude.{List};
     ghost use Rattle.braid_graph.specs.Entries.{GraphEntry};
-    ghost use Rattle.braid_graph.specs.Inside.{entries_in, IsWhole};
+    ghost use Rattle.braid_graph.specs.Inside.{entries_in, IsWhole, AreKnown};
 
     ghost Value = { List GraphEntry };
 
     ghost view = { λ graph. entries_in graph.entries.entries };
 
     ghost invariant = { λ graph. IsWhole (entries_in graph.entries.entries) graph.links.items graph.heads
-        graph.starts.items };
+        graph.starts.items × AreKnown (entries_in graph.entries.entries) graph.known.items };
 }
 
 impl Graph {
@@ -50,6 +54,7 @@ impl Graph {
             links: Vec::new(alloc),
             heads: Heads::new(alloc),
             starts: Vec::new(alloc),
+            known: Vec::new(alloc),
             alloc,
         }
     }
@@ -58,6 +63,23 @@ impl Graph {
     ///
     /// Errors: `Memory` where there was none to grow; the graph is then unchanged, and what was given is dropped.
     pub fn add(&mut self, id: Id, parents: Frontier) -> Result<u32, Memory>
+        requires new { ¬ (Holds self.old id) }
+        requires held { HoldsAll self.old parents }
+        requires few { length self.old < 524288 }
+        ensures ok { OnOk result (self.new ≡ self.old ++ record { id = id; parents = parents } ∷ []) }
+        ensures number { IfOk result (λ n. n ≡ length self.old) }
+        ensures err { OnErr result (self.new ≡ self.old) }
+    {
+        let past = self.take_past(&parents);
+        let number = self.put(id, parents)?;
+        if let Some(marks) = past {
+            self.keep_past(marks);
+        }
+        Ok(number)
+    }
+
+    /// Puts an entry at the end, as `add` does.
+    fn put(&mut self, id: Id, parents: Frontier) -> Result<u32, Memory>
         requires new { ¬ (Holds self.old id) }
         requires held { HoldsAll self.old parents }
         requires few { length self.old < 524288 }

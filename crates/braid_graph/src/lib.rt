@@ -8,13 +8,15 @@
 //!
 //! An identifier is found in expected constant time. Entries one after the other, of which each but the first has the one
 //! before it as its only parent, are a run; an ancestry is found in time linear in the runs and the parents of their first
-//! entries, and that of the newest frontier in time linear in the frontier.
+//! entries, and that of the newest frontier in time linear in the frontier. The ancestries of the last few entries that stand
+//! beside others are kept, for those that go on from them: writers who take turns in arriving walk nothing anew.
 //! Nothing here knows what a version changes, and nothing is ever taken out of a graph.
 #![tactic(auto)]
 
 mod ancestry;
 mod graph;
 mod heads;
+mod known;
 pub mod laws;
 mod links;
 

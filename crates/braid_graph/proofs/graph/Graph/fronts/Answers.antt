@@ -16,7 +16,7 @@ loop-run-preserved-then-end-start c =
     let in' = c.self.inside in
     let r = c.loop-run.run in
     let s = c.index-start.result.now in
-    let begins = start_kept c.args.self.now (entries_in in'.entries.entries) in'.links.items in'.heads in'.starts.items r s c.self.view_is c.self.invariant (omega (arith, c.requires.ends.size)) c.index-start.ensures in
+    let begins = start_kept c.args.self.now (entries_in in'.entries.entries) in'.links.items in'.heads in'.starts.items r s c.self.view_is c.self.invariant.0 (omega (arith, c.requires.ends.size)) c.index-start.ensures in
     record {
       size = c.loop-run.invariant.size;
       so_far = fronts_skip c.args.self.now c.args.ends.now r s (get_or c.args.ends.now r 0) c.loop-run.marks begins (slice_get-get_or c.args.ends.now r 0 c.loop-run-test.true) c.if-end-start.true c.loop-run.invariant.so_far;
@@ -27,7 +27,7 @@ loop-run-preserved c =
     let in' = c.self.inside in
     let r = c.loop-run.run in
     let s = c.index-start.result.now in
-    let begins = start_kept c.args.self.now (entries_in in'.entries.entries) in'.links.items in'.heads in'.starts.items r s c.self.view_is c.self.invariant (omega (arith, c.requires.ends.size)) c.index-start.ensures in
+    let begins = start_kept c.args.self.now (entries_in in'.entries.entries) in'.links.items in'.heads in'.starts.items r s c.self.view_is c.self.invariant.0 (omega (arith, c.requires.ends.size)) c.index-start.ensures in
     record {
       size = c.in_ok-add.ensures.size ∙ c.loop-run.invariant.size;
       so_far = fronts_more c.args.self.now c.args.ends.now r s (get_or c.args.ends.now r 0) c.loop-run.marks c.add.new.self begins (slice_get-get_or c.args.ends.now r 0 c.loop-run-test.true) c.loop-run.invariant.so_far c.in_ok-add.ensures.ok;

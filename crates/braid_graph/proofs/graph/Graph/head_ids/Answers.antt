@@ -12,7 +12,7 @@ loop-n-preserved-in_ok-push c =
     let n = c.loop-n.n in
     let step : n ≡ (n - 1) + 1 = omega arith in
     let so_far = subst (λ (k : ℕ). c.loop-n.ids.items ≡ reverse (filter (is_head (entries_in in'.entries.entries)) (drop k (ids_of (entries_in in'.entries.entries))))) step c.loop-n.invariant in
-    rw (c.in_ok-push.ensures.items, c.in_ok-copy.ensures.ok) (head_next in'.entries.entries in'.links.items in'.heads (n - 1) c.in-Some.id.now c.in-Some.field-0-1.now c.loop-n.ids.items c.self.invariant.kept (sym c.in-Some.ensures.entry) c.if-has.ensures.has so_far)
+    rw (c.in_ok-push.ensures.items, c.in_ok-copy.ensures.ok) (head_next in'.entries.entries in'.links.items in'.heads (n - 1) c.in-Some.id.now c.in-Some.field-0-1.now c.loop-n.ids.items c.self.invariant.0.kept (sym c.in-Some.ensures.entry) c.if-has.ensures.has so_far)
 
 pub loop-n-preserved : goal.loop-n-preserved
 loop-n-preserved c =
@@ -20,7 +20,7 @@ loop-n-preserved c =
     let n = c.loop-n.n in
     let step : n ≡ (n - 1) + 1 = omega arith in
     let so_far = subst (λ (k : ℕ). c.loop-n.ids.items ≡ reverse (filter (is_head (entries_in in'.entries.entries)) (drop k (ids_of (entries_in in'.entries.entries))))) step c.loop-n.invariant in
-    other_next in'.entries.entries in'.links.items in'.heads (n - 1) c.loop-n.ids.items c.self.invariant.kept (omega (arith, c.len-n.ensures.len)) c.if-has.ensures.has so_far
+    other_next in'.entries.entries in'.links.items in'.heads (n - 1) c.loop-n.ids.items c.self.invariant.0.kept (omega (arith, c.len-n.ensures.len)) c.if-has.ensures.has so_far
 
 pub returns-clause-ok : goal.returns-clause-ok
 returns-clause-ok c =
@@ -29,10 +29,10 @@ returns-clause-ok c =
       | else-loop-n-test w ↦ inr (omega arith)
       | then-loop-n-test+then-len-width w ↦ inl (omega (arith, w.len.ensures, c.loop-n.ids.ok.0))
     ] in
-    subst (λ (es : List GraphEntry). c.loop-n.ids.items ≡ reverse (heads_of es)) c.self.view_is (heads_all (entries_in in'.entries.entries) in'.links.items in'.heads c.loop-n.ids.items c.loop-n.n c.count-width.result c.self.invariant.kept c.count-width.ensures.count c.loop-n.invariant end)
+    subst (λ (es : List GraphEntry). c.loop-n.ids.items ≡ reverse (heads_of es)) c.self.view_is (heads_all (entries_in in'.entries.entries) in'.links.items in'.heads c.loop-n.ids.items c.loop-n.n c.count-width.result c.self.invariant.0.kept c.count-width.ensures.count c.loop-n.invariant end)
 
 pub returns-clause-few : goal.returns-clause-few
 returns-clause-few c =
     let few = heads_few c.args.self.now c.loop-n.ids.items (returns-clause-ok c) in
     let long = ap (λ (es : List GraphEntry). length es) c.self.view_is in
-    omega (arith, few, long, c.self.invariant.kept.few, c.loop-n.ids.ok.0)
+    omega (arith, few, long, c.self.invariant.0.kept.few, c.loop-n.ids.ok.0)

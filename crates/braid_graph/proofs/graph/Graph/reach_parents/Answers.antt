@@ -12,7 +12,7 @@ use Rattle.braid_graph.proofs.graph.Graph.reach_parents.Goals as goal
 pub index-requires : goal.index-requires
 index-requires c =
     let es = entries_in c.self.inside.entries.entries in
-    let long = zip_length (IsLinked es) es c.self.inside.links.items c.self.invariant.kept.linked in
+    let long = zip_length (IsLinked es) es c.self.inside.links.items c.self.invariant.0.kept.linked in
     let same = ap (λ (t : List GraphEntry). length t) c.self.view_is in
     omega (arith, long, same, c.self.inside.links.ok.0)
 
@@ -20,7 +20,7 @@ pub reach-requires-clause-within : goal.reach-requires-clause-within
 reach-requires-clause-within c =
     let in' = c.self.inside in
     let ns = c.as_slice-parent-items.result.now in
-    parent_small c.args.self.now (entries_in in'.entries.entries) in'.links.items in'.heads c.args.n c.index.result.now ns c.loop-parent.parent-index c.self.view_is c.self.invariant.kept c.requires.within c.index.ensures c.as_slice-parent-items.ensures (omega arith)
+    parent_small c.args.self.now (entries_in in'.entries.entries) in'.links.items in'.heads c.args.n c.index.result.now ns c.loop-parent.parent-index c.self.view_is c.self.invariant.0.kept c.requires.within c.index.ensures c.as_slice-parent-items.ensures (omega arith)
 
 pub loop-parent-preserved : goal.loop-parent-preserved
 loop-parent-preserved c =
@@ -38,5 +38,5 @@ returns-clause-reached c =
     let ns = c.as_slice-parent-items.result.now in
     let i = c.loop-parent.parent-index in
     let all : take i ns ≡ c.index.result.now.parents.items = take_all i ns (omega arith) ∙ c.as_slice-parent-items.ensures in
-    let both = parents_kept es (entries_in in'.entries.entries) in'.links.items in'.heads c.args.n c.index.result.now c.self.view_is c.self.invariant.kept c.requires.within c.index.ensures in
+    let both = parents_kept es (entries_in in'.entries.entries) in'.links.items in'.heads c.args.n c.index.result.now c.self.view_is c.self.invariant.0.kept c.requires.within c.index.ensures in
     more_same es c.args.ends.now c.loop-parent.ends (Contains (take i ns)) (IsParentNumber es c.args.n) (λ m. subst (λ (t : List ℕ). Contains t m ↔ IsParentNumber es c.args.n m) (sym all) (both m)) c.loop-parent.invariant.so_far

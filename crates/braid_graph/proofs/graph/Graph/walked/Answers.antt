@@ -22,7 +22,7 @@ pub returns : goal.returns
 returns c =
     let es = c.args.self.now in
     let F = c.args.of.now in
-    let h = subst IsHistoryGraph c.self.view_is c.self.invariant.kept.history in
+    let h = subst IsHistoryGraph c.self.view_is c.self.invariant.0.kept.history in
     let end : c.loop-run.run ≡ 0 = omega arith in
     let all = subst (λ (n : ℕ). IsReached es F F n c.loop-run.ends.items) end c.loop-run.invariant in
     let has = subst (λ (t : List ℕ). IsReached es F F 0 t) (sym c.deref.ensures.value) all in
