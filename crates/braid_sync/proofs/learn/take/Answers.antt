@@ -13,3 +13,13 @@ pub returns-in-Full : goal.returns-in-Full
 returns-in-Full c =
     let w = c.in-Full in
     record { takes = refused_as (ends.Full w.which w.limit) (learns.Full w.which w.limit) c.args.replica.now c.args.update c.learn.new.self refl (λ e. cc) w.ensures.answer w.ensures.learnt }
+
+pub returns-in-Clash : goal.returns-in-Clash
+returns-in-Clash c =
+    let w = c.in-Clash in
+    record { takes = refused_as (ends.Clash w.id) (learns.Clash w.id) c.args.replica.now c.args.update c.learn.new.self refl (λ e. cc) w.ensures.answer w.ensures.learnt }
+
+pub returns-in-UnknownParent : goal.returns-in-UnknownParent
+returns-in-UnknownParent c =
+    let w = c.in-UnknownParent in
+    record { takes = refused_as (ends.UnknownParent w.id) (learns.UnknownParent w.id) c.args.replica.now c.args.update c.learn.new.self refl (λ e. cc) w.ensures.answer w.ensures.learnt }
