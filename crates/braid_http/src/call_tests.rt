@@ -1,11 +1,11 @@
+use super::tests::says;
 use super::*;
 use braid_change::{Change, ListPatch, Patch, Text, Update};
-use braid_ids::{Bytes, Frontier, Id, Memory};
-use braid_io::MemLink;
+use braid_ids::{Bytes, Frontier, Id};
 use std::alloc::Global;
 
 /// A frontier of two identifiers.
-fn frontier_of(alloc: Global, first: &[u8], second: &[u8]) -> Option<Frontier> {
+pub(super) fn frontier_of(alloc: Global, first: &[u8], second: &[u8]) -> Option<Frontier> {
     let first = Id::read(alloc, first).ok()?;
     let second = Id::read(alloc, second).ok()?;
     Frontier::of(Vec::from_array(alloc, [first, second]).ok()?).ok()
@@ -58,42 +58,13 @@ fn subscription(alloc: Global) -> Option<Call> {
     })
 }
 
-/// Puts a request down: its method, its target and its body, and `!` where it asks to close.
-fn put_down(text: &mut Bytes, request: &Request) -> Result<(), Memory> {
-    text.push(request.method.as_str().as_bytes())?;
-    text.push(request.target.get())?;
-    text.push(b" ")?;
-    text.push(request.body.get())?;
-    text.push(if request.close { b"!" } else { b"" })
-}
-
-/// What a wire says of the bytes: the method, the target and the body of the request.
-fn asked(alloc: Global, bytes: Bytes) -> Result<Bytes, Memory> {
-    let mut text = Bytes::of(alloc, b"")?;
-    let mut link = MemLink::new(alloc, bytes, 7, 0, Vec::new(alloc))?;
-    let mut wire = Wire::new(alloc);
-    let answer = wire.ask(alloc, &mut link);
-    if let Asked::Request(request) = &answer {
-        put_down(&mut text, request)?;
-    }
-    Ok(text)
-}
-
-/// Whether these bytes are read back so.
-fn is_read_back(alloc: Global, bytes: Bytes, told: &[u8]) -> bool {
-    match asked(alloc, bytes) {
-        Ok(text) => text.get() == told,
-        Err(_) => false,
-    }
-}
-
 /// Whether the request has these bytes, and is read back so.
 fn is_written(alloc: Global, call: Option<Call>, expected: &[u8], told: &[u8]) -> bool {
     let Some(call) = call else {
         return false;
     };
     match request_bytes(alloc, &call) {
-        Ok(bytes) => bytes.get() == expected && is_read_back(alloc, bytes, told),
+        Ok(bytes) => bytes.get() == expected && says(alloc, bytes, 7, &[], told),
         Err(_) => false,
     }
 }
@@ -119,7 +90,7 @@ fn a_subscription_is_written(rt: HostRuntime) {
     let alloc = rt.alloc();
     let expected =
         b"GET /d?q HTTP/1.1\r\nHost: h:1\r\nSubscribe: true\r\nParents: \"a-1\", \"b-2\"\r\nMerge-Type: ti-text\r\n\r\n";
-    let written = is_written(alloc, subscription(alloc), expected, b"GET/d?q ");
+    let written = is_written(alloc, subscription(alloc), expected, b"GET/d?q \nEnd");
     assert!(rt; written);
 }
 
@@ -128,7 +99,7 @@ fn a_body_is_put(rt: HostRuntime) {
     let alloc = rt.alloc();
     let expected =
         b"PUT /doc HTTP/1.1\r\nHost: 127.0.0.1:9000\r\nVersion: \"b-1\"\r\nParents: \"a-1\", \"x-1\"\r\nMerge-Type: ti-text\r\nContent-Type: text/plain; charset=utf-8\r\nContent-Length: 3\r\n\r\nh\xc3\xa9";
-    let written = is_put(alloc, body(alloc), expected, b"PUT/doc h\xc3\xa9");
+    let written = is_put(alloc, body(alloc), expected, b"PUT/doc h\xc3\xa9\nEnd");
     assert!(rt; written);
 }
 
@@ -138,7 +109,7 @@ fn patches_are_put(rt: HostRuntime) {
     let expected =
         b"PUT /doc HTTP/1.1\r\nHost: 127.0.0.1:9000\r\nVersion: \"b-1\"\r\nParents: \"a-1\", \"x-1\"\r\nMerge-Type: ti-text\r\nContent-Type: text/plain; charset=utf-8\r\nPatches: 2\r\nContent-Length: 104\r\n\r\nContent-Length: 1\r\nContent-Range: text [0:1]\r\n\r\nJ\r\nContent-Length: 1\r\nContent-Range: text [5:5]\r\n\r\n!\r\n\r\n";
     let told =
-        b"PUT/doc Content-Length: 1\r\nContent-Range: text [0:1]\r\n\r\nJ\r\nContent-Length: 1\r\nContent-Range: text [5:5]\r\n\r\n!\r\n\r\n";
+        b"PUT/doc Content-Length: 1\r\nContent-Range: text [0:1]\r\n\r\nJ\r\nContent-Length: 1\r\nContent-Range: text [5:5]\r\n\r\n!\r\n\r\n\nEnd";
     let written = is_put(alloc, patches(alloc), expected, told);
     assert!(rt; written);
 }
