@@ -3,15 +3,14 @@
 ghost use Rattle.std.specs.Prelude.{◌≡◌, false};
 
 use super::*;
-use crate::tests::{PIECES, serve_on};
+use crate::tests::{Left, repeated, serve, serve_on};
 use braid_hall::{Hall, Pass};
 use braid_ids::{Bytes, Memory};
-use braid_io::{Bell, MemBell, MemLink, Rang};
+use braid_io::{Bell, MemLink, Rang};
 use braid_store::Book;
 use std::alloc::Global;
 use std::marker::{Send, Sync};
 use std::sync::Wait;
-use std::test::Fail;
 
 const PUT_A: &[u8] = b"PUT /d HTTP/1.1\r\nVersion: \"a-1\"\r\nContent-Length: 2\r\n\r\nhi";
 
@@ -71,23 +70,16 @@ const HEAD_LENGTH: usize = 179;
 /// The length of what is written for 301 versions and a subscription to all but the first of them.
 const MANY_LENGTH: usize = 6038614;
 
-/// What a session reads, how many Agains its bell has, and what it is to leave. The texts are in parts, one behind the other.
-#[derive(Clone, Copy)]
+/// At which ticket a hall opens, what a session reads, how many Agains its bell has, and what it is to leave. The texts
+/// are in parts, one behind the other.
 struct Row {
-    asked: [&'static [u8]; 4],
+    ticket: u64,
+    asked: &'static [&'static [u8]],
     answers: u64,
-    written: [&'static [u8]; 9],
+    written: &'static [&'static [u8]],
     marks: &'static [u64],
     requests: u64,
     end: SessionEnd,
-}
-
-/// What a session left.
-#[derive(Drop)]
-struct Left {
-    link: MemLink,
-    bell: MemBell,
-    note: SessionNote,
 }
 
 /// These parts, one behind the other.
@@ -99,134 +91,145 @@ fn joined(alloc: Global, parts: &[&[u8]]) -> Result<Bytes, Memory> {
     Ok(bytes)
 }
 
-/// Whether bytes are these parts, one behind the other.
-fn are_parts(bytes: &[u8], parts: &[&[u8]]) -> bool {
+/// What stands behind these parts, which stand one behind the other at the front.
+fn behind_parts<'a>(bytes: &'a [u8], parts: &[&[u8]]) -> Option<&'a [u8]> {
     let mut rest = bytes;
     for part in parts {
         match rest.strip_prefix(*part) {
             Some(left) => rest = left,
-            None => return false,
+            None => return None,
         }
     }
-    rest.is_empty()
+    Some(rest)
 }
 
-/// A session on a new book behind a hall that opens at a ticket. The calls of its link of these numbers fail.
-fn serve_watch<R: Wait>(
-    rt: &R,
-    alloc: Global,
-    ticket: u64,
-    asked: Bytes,
-    piece: usize,
-    answers: u64,
-    fails: Vec<u64>,
-) -> Result<Left, Memory> {
-    let (hall, mut pass) = Hall::open_at(alloc, Book::new(alloc), ticket)?;
-    let mut link = MemLink::new(alloc, asked, piece.max(1), 8_000_000, fails)?;
-    let mut bell = MemBell::new(answers);
-    let note = serve_session(alloc, rt, &hall, &mut pass, &mut link, &mut bell);
-    Ok(Left { link, bell, note })
+/// Whether bytes are these parts, one behind the other.
+fn are_parts(bytes: &[u8], parts: &[&[u8]]) -> bool {
+    match behind_parts(bytes, parts) {
+        Some(rest) => rest.is_empty(),
+        None => false,
+    }
 }
 
 fn is_left(left: &Left, row: &Row) -> bool {
-    are_parts(left.link.written(), &row.written)
+    are_parts(left.link.written(), row.written)
         && left.note.marks.as_slice() == row.marks
         && left.note.requests == row.requests
         && left.note.end == row.end
         && left.bell.agains() == row.answers
 }
 
-/// The first row of which a session leaves something else, in pieces of some size.
-fn first_other<R: Wait>(
-    rt: &R,
-    alloc: Global,
-    ticket: u64,
-    rows: &[Row],
-) -> Result<Option<usize>, Memory> {
-    for (n, row) in rows.iter().enumerate() {
-        for piece in PIECES {
-            let asked = joined(alloc, &row.asked)?;
-            let fails = Vec::new(alloc);
-            let left = serve_watch(rt, alloc, ticket, asked, piece, row.answers, fails)?;
-            if !is_left(&left, row) {
-                return Ok(Some(n));
-            }
+/// Whether a session leaves that, in pieces of this size.
+fn leaves<R: Wait>(rt: &R, alloc: Global, row: &Row, piece: usize) -> Result<bool, Memory> {
+    let asked = joined(alloc, row.asked)?;
+    let left = serve(rt, alloc, row.ticket, asked, piece, row.answers, &[])?;
+    Ok(is_left(&left, row))
+}
+
+/// Whether it does so in pieces of each size.
+fn leaves_always<R: Wait>(rt: &R, alloc: Global, row: &Row) -> bool {
+    leaves(rt, alloc, row, 1) == Ok(true)
+        && leaves(rt, alloc, row, 7) == Ok(true)
+        && leaves(rt, alloc, row, 1_000_000) == Ok(true)
+}
+
+/// Whether a session leaves what each row says.
+fn all_leave<R: Wait>(rt: &R, alloc: Global, rows: &[Row]) -> bool {
+    for row in rows {
+        if !leaves_always(rt, alloc, row) {
+            return false;
         }
     }
-    Ok(None)
+    true
 }
 
-#[test]
-fn a_subscription_sends_what_is_there_and_beats(rt: HostRuntime) -> Result<(), Fail> {
-    let rows = [
-        // An empty book, without Parents, and whatever the field's value is.
-        Row {
-            asked: [b"GET /d HTTP/1.1\r\nSubscribe: 0\r\n\r\n", b"", b"", b""],
-            answers: 0,
-            written: [HEAD, BEHIND, LAST, b"", b"", b"", b"", b"", b""],
-            marks: &[0],
-            requests: 1,
-            end: SessionEnd::Stopped,
-        },
-        // The same with empty Parents, asking to close too: that line stands once.
-        Row {
-            asked: [
-                b"GET /d HTTP/1.1\r\nSubscribe: true\r\nParents:\r\nConnection: close\r\n\r\n",
-                b"",
-                b"",
-                b"",
-            ],
-            answers: 1,
-            written: [HEAD, BEHIND, BEAT, LAST, b"", b"", b"", b"", b""],
-            marks: &[0, 0],
-            requests: 1,
-            end: SessionEnd::Stopped,
-        },
-        // A parent that is not held, behind which the session goes on.
-        Row {
-            asked: [WATCH_FROM_A, b"GET /d HTTP/1.1\r\n\r\n", b"", b""],
-            answers: 0,
-            written: [UNKNOWN_A, ABSENT, b"", b"", b"", b"", b"", b"", b""],
-            marks: &[0, 0],
-            requests: 2,
-            end: SessionEnd::Closed,
-        },
-        // What stands behind a subscription is not answered; what was put elsewhere is not sent.
-        Row {
-            asked: [PUT_A, PUT_ELSEWHERE, WATCH, b"GET /d HTTP/1.1\r\n\r\n"],
-            answers: 2,
-            written: [
-                STORED_A,
-                STORED_B,
-                HEAD,
-                b" \"a-1\"",
-                BEHIND,
-                CHUNK_A,
-                BEAT,
-                BEAT,
-                LAST,
-            ],
-            marks: &[0, 1, 2, 2, 2],
-            requests: 3,
-            end: SessionEnd::Stopped,
-        },
-    ];
-    assert!(rt; first_other(&rt, rt.alloc(), 0, &rows)? == None);
-    Ok(())
-}
-
-#[test]
-fn the_last_ticket_serves_the_first_turn_of_a_subscription(rt: HostRuntime) -> Result<(), Fail> {
-    let rows = [Row {
-        asked: [WATCH, b"", b"", b""],
+const ROWS: [Row; 5] = [
+    // An empty book, without Parents, and whatever the field's value is.
+    Row {
+        ticket: 0,
+        asked: &[b"GET /d HTTP/1.1\r\nSubscribe: 0\r\n\r\n"],
+        answers: 0,
+        written: &[HEAD, BEHIND, LAST],
+        marks: &[0],
+        requests: 1,
+        end: SessionEnd::Stopped,
+    },
+    // The same with empty Parents, asking to close too: that line stands once.
+    Row {
+        ticket: 0,
+        asked: &[b"GET /d HTTP/1.1\r\nSubscribe: true\r\nParents:\r\nConnection: close\r\n\r\n"],
         answers: 1,
-        written: [HEAD, BEHIND, b"", b"", b"", b"", b"", b"", b""],
+        written: &[HEAD, BEHIND, BEAT, LAST],
+        marks: &[0, 0],
+        requests: 1,
+        end: SessionEnd::Stopped,
+    },
+    // A parent that is not held, behind which the session goes on.
+    Row {
+        ticket: 0,
+        asked: &[WATCH_FROM_A, b"GET /d HTTP/1.1\r\n\r\n"],
+        answers: 0,
+        written: &[UNKNOWN_A, ABSENT],
+        marks: &[0, 0],
+        requests: 2,
+        end: SessionEnd::Closed,
+    },
+    // What stands behind a subscription is not answered; what was put elsewhere is not sent.
+    Row {
+        ticket: 0,
+        asked: &[PUT_A, PUT_ELSEWHERE, WATCH, b"GET /d HTTP/1.1\r\n\r\n"],
+        answers: 2,
+        written: &[
+            STORED_A,
+            STORED_B,
+            HEAD,
+            b" \"a-1\"",
+            BEHIND,
+            CHUNK_A,
+            BEAT,
+            BEAT,
+            LAST,
+        ],
+        marks: &[0, 1, 2, 2, 2],
+        requests: 3,
+        end: SessionEnd::Stopped,
+    },
+    // The last ticket serves the first turn of a subscription.
+    Row {
+        ticket: 9_223_372_036_854_775_807,
+        asked: &[WATCH],
+        answers: 1,
+        written: &[HEAD, BEHIND],
         marks: &[0],
         requests: 1,
         end: SessionEnd::Worn,
-    }];
-    assert!(rt; first_other(&rt, rt.alloc(), 9_223_372_036_854_775_807, &rows)? == None);
-    Ok(())
+    },
+];
+
+#[test]
+fn a_subscription_sends_what_is_there_and_beats(rt: HostRuntime) {
+    assert!(rt; all_leave(&rt, rt.alloc(), &ROWS));
+}
+
+/// The front of what is written for a history with a merge, and a subscription behind it.
+const RESUMED: [&[u8]; 7] = [
+    STORED_A,
+    STORED_B,
+    STORED_C,
+    STORED_M,
+    HEAD,
+    b" \"m-1\"",
+    BEHIND,
+];
+
+/// Whether a session on that history sent these chunks.
+fn has_resumed(left: &Left, chunks: &[&[u8]]) -> bool {
+    match behind_parts(left.link.written(), &RESUMED) {
+        Some(behind) => {
+            are_parts(behind, chunks) && left.note.marks.as_slice() == [0, 1, 2, 3, 4, 4].as_slice()
+        }
+        None => false,
+    }
 }
 
 /// Whether a subscription behind a history with a merge sends these chunks, from these parents.
@@ -237,55 +240,37 @@ fn resumes<R: Wait>(
     chunks: &[&[u8]],
 ) -> Result<bool, Memory> {
     let lines: &[u8] = b"GET /d HTTP/1.1\r\nSubscribe: true\r\nParents: ";
-    let asked = joined(
-        alloc,
-        &[PUT_A, PUT_B, PUT_C, PUT_M, lines, parents, b"\r\n\r\n"],
-    )?;
-    let front = joined(
-        alloc,
-        &[
-            STORED_A,
-            STORED_B,
-            STORED_C,
-            STORED_M,
-            HEAD,
-            b" \"m-1\"",
-            BEHIND,
-        ],
-    )?;
-    let left = serve_watch(rt, alloc, 0, asked, 4_096, 1, Vec::new(alloc))?;
-    let Some(behind) = left.link.written().strip_prefix(front.get()) else {
-        return Ok(false);
-    };
-    Ok(are_parts(behind, chunks) && left.note.marks.as_slice() == [0, 1, 2, 3, 4, 4].as_slice())
+    let parts = [PUT_A, PUT_B, PUT_C, PUT_M, lines, parents, b"\r\n\r\n"];
+    let asked = joined(alloc, &parts)?;
+    let left = serve(rt, alloc, 0, asked, 4_096, 1, &[])?;
+    Ok(has_resumed(&left, chunks))
 }
 
-/// The first of such rows that a subscription does not keep to.
-fn first_not_resumed<R: Wait>(
-    rt: &R,
-    alloc: Global,
-    rows: &[(&[u8], [&[u8]; 6])],
-) -> Result<Option<usize>, Memory> {
-    for (n, (parents, chunks)) in rows.iter().enumerate() {
-        if !resumes(rt, alloc, parents, chunks)? {
-            return Ok(Some(n));
+/// Parents, and the chunks that are sent from them.
+type Resumption = (&'static [u8], &'static [&'static [u8]]);
+
+/// Whether a subscription does so for each row.
+fn all_resume<R: Wait>(rt: &R, alloc: Global, rows: &[Resumption]) -> bool {
+    for (parents, chunks) in rows {
+        if resumes(rt, alloc, parents, chunks) != Ok(true) {
+            return false;
         }
     }
-    Ok(None)
+    true
 }
 
+const RESUMPTIONS: [Resumption; 6] = [
+    (b"", &[CHUNK_A, CHUNK_B, CHUNK_C, CHUNK_M, BEAT, LAST]),
+    (b"\"a-1\"", &[CHUNK_B, CHUNK_C, CHUNK_M, BEAT, LAST]),
+    (b"\"b-1\"", &[CHUNK_C, CHUNK_M, BEAT, LAST]),
+    (b"\"c-1\"", &[CHUNK_B, CHUNK_M, BEAT, LAST]),
+    (b"\"c-1\", \"b-1\"", &[CHUNK_M, BEAT, LAST]),
+    (b"\"m-1\"", &[BEAT, LAST]),
+];
+
 #[test]
-fn a_subscription_resumes_from_each_version(rt: HostRuntime) -> Result<(), Fail> {
-    let rows: [(&[u8], [&[u8]; 6]); 6] = [
-        (b"", [CHUNK_A, CHUNK_B, CHUNK_C, CHUNK_M, BEAT, LAST]),
-        (b"\"a-1\"", [CHUNK_B, CHUNK_C, CHUNK_M, BEAT, LAST, b""]),
-        (b"\"b-1\"", [CHUNK_C, CHUNK_M, BEAT, LAST, b"", b""]),
-        (b"\"c-1\"", [CHUNK_B, CHUNK_M, BEAT, LAST, b"", b""]),
-        (b"\"c-1\", \"b-1\"", [CHUNK_M, BEAT, LAST, b"", b"", b""]),
-        (b"\"m-1\"", [BEAT, LAST, b"", b"", b"", b""]),
-    ];
-    assert!(rt; first_not_resumed(&rt, rt.alloc(), &rows)? == None);
-    Ok(())
+fn a_subscription_resumes_from_each_version(rt: HostRuntime) {
+    assert!(rt; all_resume(&rt, rt.alloc(), &RESUMPTIONS));
 }
 
 /// A bell that answers `Again` so many times, and puts an update by another pass before the last time.
@@ -345,16 +330,22 @@ fn watch_a_put<R: Wait + Sync>(
     Ok(serve_session(alloc, rt, &hall, &mut root, link, &mut bell))
 }
 
-#[test]
-fn a_subscription_shows_what_another_connection_puts(rt: HostRuntime) -> Result<(), Fail> {
-    let alloc = rt.alloc();
+/// Whether a subscription shows what another connection puts, and ends so.
+fn shows_a_put<R: Wait + Sync>(rt: &R, alloc: Global) -> Result<bool, Memory> {
     let asked = Bytes::of(alloc, WATCH_FROM_A)?;
     let mut link = MemLink::new(alloc, asked, 4_096, 4_096, Vec::new(alloc))?;
-    let note = watch_a_put(&rt, alloc, &mut link)?;
+    let note = watch_a_put(rt, alloc, &mut link)?;
     let parts: [&[u8]; 6] = [HEAD, b" \"a-1\"", BEHIND, BEAT, CHUNK_B, LAST];
-    assert!(rt; are_parts(link.written(), &parts));
-    assert!(rt; note.marks.as_slice() == [1, 1, 2].as_slice() && note.end == SessionEnd::Stopped);
-    Ok(())
+    Ok(
+        are_parts(link.written(), &parts)
+            && note.marks.as_slice() == [1, 1, 2].as_slice()
+            && note.end == SessionEnd::Stopped,
+    )
+}
+
+#[test]
+fn a_subscription_shows_what_another_connection_puts(rt: HostRuntime) {
+    assert!(rt; shows_a_put(&rt, rt.alloc()) == Ok(true));
 }
 
 /// The requests that are cut off: a PUT, and a subscription.
@@ -373,54 +364,52 @@ fn answered(written: usize) -> u64 {
     }
 }
 
+/// Whether a session wrote a front of the whole text and answered as much; `None` where it was not cut off.
+fn is_front(left: &Left, whole: &[u8]) -> Option<bool> {
+    let written = left.link.written();
+    match left.note.end {
+        SessionEnd::ReadFault | SessionEnd::WriteFault => {
+            Some(whole.starts_with(written) && left.note.requests == answered(written.len()))
+        }
+        _ => None,
+    }
+}
+
+/// A session on those requests, with a bell that answers once.
+fn cut<R: Wait>(rt: &R, alloc: Global, fails: &[u64]) -> Result<Left, Memory> {
+    let asked = joined(alloc, &CUT)?;
+    serve(rt, alloc, 0, asked, 30, 1, fails)
+}
+
 /// Whether a session whose call of this number failed wrote a front of the whole text, and ended so; `None` where no call
 /// has that number.
 fn is_cut<R: Wait>(rt: &R, alloc: Global, whole: &[u8], call: u64) -> Result<Option<bool>, Memory> {
-    let fails = vec![in alloc; call]?;
-    let left = serve_watch(rt, alloc, 0, joined(alloc, &CUT)?, 30, 1, fails)?;
-    let written = left.link.written();
-    let is_front = whole.starts_with(written) && left.note.requests == answered(written.len());
-    match left.note.end {
-        SessionEnd::ReadFault | SessionEnd::WriteFault => Ok(Some(is_front)),
-        _ => Ok(None),
-    }
+    let left = cut(rt, alloc, &[call])?;
+    Ok(is_front(&left, whole))
 }
 
 /// The numbers of the calls that may fail, and whether each of them cuts the session.
-fn cuts<R: Wait>(rt: &R, alloc: Global) -> Result<(u64, bool), Memory> {
-    let whole = serve_watch(rt, alloc, 0, joined(alloc, &CUT)?, 30, 1, Vec::new(alloc))?;
+fn cuts<R: Wait>(rt: &R, alloc: Global, whole: &[u8]) -> (u64, bool) {
     for call in 0..100 {
-        match is_cut(rt, alloc, whole.link.written(), call)? {
-            Some(true) => {}
-            Some(false) => return Ok((call, false)),
-            None => return Ok((call, true)),
+        match is_cut(rt, alloc, whole, call) {
+            Ok(Some(true)) => {}
+            Ok(None) => return (call, true),
+            _ => return (call, false),
         }
     }
-    Ok((100, false))
+    (100, false)
+}
+
+/// The same, of the text that such a session writes where no call fails.
+fn cuts_whole<R: Wait>(rt: &R, alloc: Global) -> Result<(u64, bool), Memory> {
+    let whole = cut(rt, alloc, &[])?;
+    Ok(cuts(rt, alloc, whole.link.written()))
 }
 
 #[test]
-fn a_link_may_fail_at_each_call_of_a_subscription(rt: HostRuntime) -> Result<(), Fail> {
+fn a_link_may_fail_at_each_call_of_a_subscription(rt: HostRuntime) {
     // Four reads of the requests, and writes of a reply, a head, a chunk, a beat and the last chunk.
-    assert!(rt; cuts(&rt, rt.alloc())? == (9, true));
-    Ok(())
-}
-
-/// How a session ends whose 10,000th request is a subscription.
-fn ends_watching<R: Wait>(rt: &R, alloc: Global) -> Result<(SessionEnd, u64, usize), Memory> {
-    let mut asked = Bytes::of(alloc, b"")?;
-    for _ in 1..10_000 {
-        asked.push(b"POST /a HTTP/1.1\r\n\r\n")?;
-    }
-    asked.push(WATCH)?;
-    let left = serve_watch(rt, alloc, 0, asked, 8_192, 1, Vec::new(alloc))?;
-    Ok((left.note.end, left.note.requests, left.note.marks.len()))
-}
-
-#[test]
-fn the_last_of_ten_thousand_requests_may_be_a_subscription(rt: HostRuntime) -> Result<(), Fail> {
-    assert!(rt; ends_watching(&rt, rt.alloc())? == (SessionEnd::Stopped, 10_000, 2));
-    Ok(())
+    assert!(rt; cuts_whole(&rt, rt.alloc()) == Ok((9, true)));
 }
 
 /// Puts a PUT of one of many versions behind the others, each with the one before as its parent.
@@ -433,27 +422,39 @@ fn push_put(alloc: Global, bytes: &mut Bytes, n: u32, content: &[u8]) -> Result<
     bytes.push(content)
 }
 
-/// The PUTs of 300 versions behind the first, of 20,000 bytes each, and a subscription.
+/// Puts the PUTs of 300 versions down, of 20,000 bytes each.
+fn push_puts(alloc: Global, bytes: &mut Bytes, content: &[u8]) -> Result<(), Memory> {
+    for n in 1..301 {
+        push_put(alloc, bytes, n, content)?;
+    }
+    Ok(())
+}
+
+/// The PUTs of those versions behind the first, and a subscription.
 fn many_puts(alloc: Global) -> Result<Bytes, Memory> {
-    let content = vec![in alloc; b'x'; 20_000]?;
+    let content = repeated(alloc, b"", b"x", 20_000, b"")?;
     let mut bytes = Bytes::of(
         alloc,
         b"PUT /d HTTP/1.1\r\nVersion: \"a-0\"\r\nContent-Length: 0\r\n\r\n",
     )?;
-    for n in 1..301 {
-        push_put(alloc, &mut bytes, n, content.as_slice())?;
-    }
+    push_puts(alloc, &mut bytes, content.get())?;
+    bytes.push(b"GET /d HTTP/1.1\r\nSubscribe: true\r\nParents: \"a-0\"\r\n\r\n")?;
     Ok(bytes)
 }
 
+/// Whether a subscription sends all of them.
+fn sends_many<R: Wait>(rt: &R, alloc: Global) -> Result<bool, Memory> {
+    let asked = many_puts(alloc)?;
+    let left = serve(rt, alloc, 0, asked, 65_536, 0, &[])?;
+    Ok(
+        left.note.end == SessionEnd::Stopped
+            && left.note.requests == 302
+            && left.link.written().len() == MANY_LENGTH
+            && left.link.written().ends_with(b"xxxx\r\n\r\n\r\n0\r\n\r\n"),
+    )
+}
+
 #[test]
-fn a_subscription_sends_three_hundred_long_versions(rt: HostRuntime) -> Result<(), Fail> {
-    let alloc = rt.alloc();
-    let mut asked = many_puts(alloc)?;
-    asked.push(b"GET /d HTTP/1.1\r\nSubscribe: true\r\nParents: \"a-0\"\r\n\r\n")?;
-    let left = serve_watch(&rt, alloc, 0, asked, 65_536, 0, Vec::new(alloc))?;
-    assert!(rt; left.note.end == SessionEnd::Stopped && left.note.requests == 302);
-    assert_eq!(rt; left.link.written().len(), MANY_LENGTH);
-    assert!(rt; left.link.written().ends_with(b"xxxx\r\n\r\n\r\n0\r\n\r\n"));
-    Ok(())
+fn a_subscription_sends_three_hundred_long_versions(rt: HostRuntime) {
+    assert!(rt; sends_many(&rt, rt.alloc()) == Ok(true));
 }
