@@ -1,9 +1,8 @@
-//! The limits of a book and of an update's parents: the last value of each, and the next one; and a text that stands among many
-//! deleted ones.
+//! The limits of a book and of an update's parents: the last value of each, and the next one; and a text that stands
+//! among many deleted ones.
 
-use crate::sessions::serve;
+use crate::sessions::{Session, served};
 use braid_ids::{Bytes, Memory};
-use braid_io::MemLink;
 use braid_session::SessionEnd;
 use std::alloc::Global;
 use std::sync::Wait;
@@ -21,6 +20,14 @@ const FULL: &[u8] =
 const ABSENT: &[u8] =
     b"HTTP/1.1 404 Not Found\r\nContent-Type: text/plain; charset=utf-8\r\nContent-Length: 7\r\n\r\nAbsent\n";
 
+/// Whether a session answered so many requests, added so many entries, and wrote these replies last.
+fn is_so(session: &Session, requests: u64, entries: u64, last: &[u8]) -> bool {
+    session.left.note.end == SessionEnd::Closed
+        && session.left.note.requests == requests
+        && session.left.has_entries(entries)
+        && session.link.written().ends_with(last)
+}
+
 /// Whether a session of these bytes answers so many requests, adds so many entries, and writes these replies last.
 fn ends_so<R: Wait>(
     rt: &R,
@@ -30,14 +37,8 @@ fn ends_so<R: Wait>(
     entries: u64,
     last: &[u8],
 ) -> Result<bool, Memory> {
-    let mut link = MemLink::new(alloc, asked, 8_192, 1_000_000, Vec::new(alloc))?;
-    let left = serve(rt, alloc, &mut link)?;
-    Ok(
-        left.note.end == SessionEnd::Closed
-            && left.note.requests == requests
-            && left.has_entries(entries)
-            && link.written().ends_with(last),
-    )
+    let session = served(rt, alloc, asked, 8_192, 1_000_000, &[])?;
+    Ok(is_so(&session, requests, entries, last))
 }
 
 /// A PUT of this name with the first so many of the versions as its parents.

@@ -20,15 +20,22 @@ fn words_of(alloc: Global, words: &[&[u8]]) -> Result<Vec<Word>, Fail> {
     Ok(list)
 }
 
+/// These bytes under `s`.
+fn entries_of(alloc: Global, state: &[u8]) -> Result<Vec<(Word, Bytes)>, Fail> {
+    let name = Word::of(alloc, b"s")?;
+    let bytes = Bytes::of(alloc, state)?;
+    Ok(vec![in alloc; (name, bytes)]?)
+}
+
 /// A keeper of these bytes under `s`. The loads and saves of these numbers fail.
 pub fn keeper_of(alloc: Global, state: &[u8], fails: &[u64]) -> Result<MemKeeper, Fail> {
-    let entry = (Word::of(alloc, b"s")?, Bytes::of(alloc, state)?);
+    let entries = entries_of(alloc, state)?;
     let fails = Vec::from_slice(alloc, fails)?;
-    Ok(MemKeeper::new(vec![in alloc; entry]?, fails))
+    Ok(MemKeeper::new(entries, fails))
 }
 
 /// Whether these bytes are kept under `s`.
-pub fn keeps(keeper: &MemKeeper, state: &[u8]) -> bool {
+fn keeps(keeper: &MemKeeper, state: &[u8]) -> bool {
     match keeper.kept(b"s") {
         Some(bytes) => bytes.get() == state,
         None => false,
@@ -56,6 +63,29 @@ pub fn run(
     Ok(Ran { status, out })
 }
 
+impl Ran {
+    /// Whether this was printed, with this status.
+    pub fn is_so(&self, line: &[u8], status: Status) -> bool {
+        self.out.written() == line && self.status == status
+    }
+}
+
+/// Whether a run printed this, with this status, and left this state.
+pub fn left(ran: &Ran, keeper: &MemKeeper, line: &[u8], status: Status, state: &[u8]) -> bool {
+    ran.is_so(line, status) && keeps(keeper, state)
+}
+
+/// A sync with these bytes on the two links.
+fn run_sync(
+    alloc: Global,
+    keeper: &mut MemKeeper,
+    first: &[u8],
+    second: &[u8],
+) -> Result<Ran, Fail> {
+    let mut dialer = dialer(alloc, first, second, 4_096)?;
+    run(alloc, &[b"sync", b"s"], keeper, &mut dialer, 100)
+}
+
 /// Whether a sync with these bytes on the two links prints this, with this status, and keeps the state as it was.
 fn tells(
     alloc: Global,
@@ -65,9 +95,8 @@ fn tells(
     status: Status,
 ) -> Result<bool, Fail> {
     let mut keeper = keeper_of(alloc, STATE, &[])?;
-    let mut dialer = dialer(alloc, first, second, 4_096)?;
-    let ran = run(alloc, &[b"sync", b"s"], &mut keeper, &mut dialer, 100)?;
-    Ok(ran.out.written() == line && ran.status == status && keeps(&keeper, STATE))
+    let ran = run_sync(alloc, &mut keeper, first, second)?;
+    Ok(left(&ran, &keeper, line, status, STATE))
 }
 
 /// What the two links give, the line, and the status.

@@ -1,4 +1,5 @@
-//! Syncs of which a call fails, or whose link has no more room: each call in turn, and that a further sync goes on from there.
+//! Syncs of which a call fails, or whose link has no more room: each call in turn, and that a further sync goes on from
+//! there.
 //!
 //! The replica is of agent `a`, has confirmed `x-1`, and has `a-1` and `a-2` unsent. The server holds `x-1` and `y-1`.
 
@@ -6,7 +7,7 @@ ghost use Rattle.std.specs.Prelude.{IfOk};
 ghost use Rattle.braid_sync.specs.Opening.{IsPlace};
 ghost use Rattle.braid_io.specs.MemDoors.{IsUnused};
 
-use crate::scripts::{Want, dialer, holds, is_end, link, one_and_two, place, two_links};
+use crate::scripts::{Leaves, Want, has_left, link, one_and_two, place, sync_over, two_links};
 use braid_io::{MemDialer, MemLink};
 use braid_outbox::Replica;
 use braid_sync::{Place, SyncEnd, sync};
@@ -37,7 +38,7 @@ enum Failing {
 }
 
 /// How a sync went.
-#[derive(Clone, Copy, PartialEq, Eq)]
+#[derive(Clone, Copy)]
 enum Went {
     /// A call failed, and the end says which.
     Failed,
@@ -69,13 +70,23 @@ fn second_link(alloc: Global, piece: usize, failing: Failing) -> Result<MemLink,
     }
 }
 
-/// A dialer of both links.
-fn failing_dialer(alloc: Global, piece: usize, failing: Failing) -> Result<MemDialer, Fail> {
+/// A dialer of both links, whose dials of these numbers fail.
+fn dialer_of(
+    alloc: Global,
+    piece: usize,
+    failing: Failing,
+    dials: &[u64],
+) -> Result<MemDialer, Fail> {
     let first = first_link(alloc, piece, failing)?;
     let second = second_link(alloc, piece, failing)?;
+    two_links(alloc, first, second, dials)
+}
+
+/// A dialer of both links, of which what is to fail does.
+fn failing_dialer(alloc: Global, piece: usize, failing: Failing) -> Result<MemDialer, Fail> {
     match failing {
-        Failing::Dial(call) => two_links(alloc, first, second, &[call]),
-        _ => two_links(alloc, first, second, &[]),
+        Failing::Dial(call) => dialer_of(alloc, piece, failing, &[call]),
+        _ => dialer_of(alloc, piece, failing, &[]),
     }
 }
 
@@ -116,28 +127,52 @@ fn tried(
     Ok(went_so(&end, faults(&dialer)))
 }
 
+/// What a sync leaves that learns and sends all.
+const ALL: Leaves = Leaves {
+    want: Want::Done,
+    confirmed: 4,
+    unsent: 0,
+    text: b"aPb!c",
+};
+
 /// Whether a sync of a replica of which no call fails learns and sends all.
 fn completes(alloc: Global, place: &Place, replica: &mut Replica) -> Result<bool, Fail>
     requires place { IsPlace place.now }
 {
-    let mut dialer = dialer(alloc, GIVEN, TAKEN, 4_096)?;
-    let end = sync(alloc, replica, place, &mut dialer);
-    Ok(is_end(&end, Want::Done) && holds(alloc, replica, 4, 0, b"aPb!c")?)
+    let end = sync_over(alloc, place, replica, GIVEN, TAKEN, 4_096)?;
+    has_left(alloc, replica, &end, ALL)
 }
 
-/// How a sync with this failing call goes, where nothing is lost by it, and a further one learns and sends all.
-fn sync_went(alloc: Global, place: &Place, piece: usize, failing: Failing) -> Result<Went, Fail>
+/// Whether a replica has lost nothing.
+fn has_kept(replica: &Replica) -> bool {
+    replica.confirmed() >= 1 && replica.confirmed().saturating_add(replica.unsent()) >= 3
+}
+
+/// How a sync of a replica with this failing call goes, where nothing is lost by it, and a further one learns and sends
+/// all.
+fn tried_twice(
+    alloc: Global,
+    place: &Place,
+    replica: &mut Replica,
+    piece: usize,
+    failing: Failing,
+) -> Result<Went, Fail>
     requires place { IsPlace place.now }
 {
-    let mut replica = one_and_two(alloc)?;
-    let went = tried(alloc, place, &mut replica, piece, failing)?;
-    let kept = replica.confirmed() >= 1
-        && replica.confirmed().saturating_add(replica.unsent()) >= 3;
-    if kept && completes(alloc, place, &mut replica)? {
+    let went = tried(alloc, place, replica, piece, failing)?;
+    if has_kept(replica) && completes(alloc, place, replica)? {
         Ok(went)
     } else {
         Ok(Went::Wrong)
     }
+}
+
+/// How such a sync of a new replica goes.
+fn sync_went(alloc: Global, place: &Place, piece: usize, failing: Failing) -> Result<Went, Fail>
+    requires place { IsPlace place.now }
+{
+    let mut replica = one_and_two(alloc)?;
+    tried_twice(alloc, place, &mut replica, piece, failing)
 }
 
 /// What fails with this number, of one kind.
@@ -170,46 +205,51 @@ fn first_whole(
     Ok(None)
 }
 
+/// A kind, the size of the pieces, and the first number with which no call fails.
+type Row = (Failing, usize, u64);
+
+/// The first row whose number is another.
+fn other_at(alloc: Global, place: &Place, rows: &[Row]) -> Result<Option<usize>, Fail>
+    requires place { IsPlace place.now }
+{
+    for (n, (kind, piece, first)) in rows.iter().enumerate() {
+        if first_whole(alloc, place, *piece, *kind)? != Some(*first) {
+            return Ok(Some(n));
+        }
+    }
+    Ok(None)
+}
+
+/// The same, where the place of all replicas is made first.
+fn first_other(alloc: Global, rows: &[Row]) -> Result<Option<usize>, Fail> {
+    let place = place(alloc)?;
+    other_at(alloc, &place, rows)
+}
+
+/// One write, and one read or as many as there are bytes up to the last of the update; two writes, and a read for each
+/// reply or for each byte of the replies.
+const CALLS: &[Row] = &[
+    (Failing::Dial(0), 4_096, 2),
+    (Failing::First(0), 4_096, 2),
+    (Failing::First(0), 1, 219),
+    (Failing::Second(0), 54, 4),
+    (Failing::Second(0), 1, 110),
+];
+
 #[test]
 fn each_call_of_a_sync_may_fail(rt: HostRuntime) -> Result<(), Fail> {
-    let alloc = rt.alloc();
-    let place = place(alloc)?;
-    assert_eq!(rt;
-        first_whole(alloc, &place, 4_096, Failing::Dial(0))?,
-        Some(2)
-    );
-    // One write, and one read or as many as there are bytes up to the last of the update; two writes, and a read for each reply
-    // or for each byte of the replies.
-    assert_eq!(rt;
-        first_whole(alloc, &place, 4_096, Failing::First(0))?,
-        Some(2)
-    );
-    assert_eq!(rt;
-        first_whole(alloc, &place, 1, Failing::First(0))?,
-        Some(219)
-    );
-    assert_eq!(rt;
-        first_whole(alloc, &place, 54, Failing::Second(0))?,
-        Some(4)
-    );
-    assert_eq!(rt;
-        first_whole(alloc, &place, 1, Failing::Second(0))?,
-        Some(110)
-    );
+    assert_eq!(rt; first_other(rt.alloc(), CALLS)?, None);
     Ok(())
 }
 
+/// The bytes of the subscription, and those of both PUTs.
+const ROOMS: &[Row] = &[
+    (Failing::FirstRoom(0), 4_096, 86),
+    (Failing::SecondRoom(0), 4_096, 422),
+];
+
 #[test]
 fn a_link_of_a_sync_may_have_no_more_room(rt: HostRuntime) -> Result<(), Fail> {
-    let alloc = rt.alloc();
-    let place = place(alloc)?;
-    assert_eq!(rt;
-        first_whole(alloc, &place, 4_096, Failing::FirstRoom(0))?,
-        Some(86)
-    );
-    assert_eq!(rt;
-        first_whole(alloc, &place, 4_096, Failing::SecondRoom(0))?,
-        Some(422)
-    );
+    assert_eq!(rt; first_other(rt.alloc(), ROOMS)?, None);
     Ok(())
 }

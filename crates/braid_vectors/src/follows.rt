@@ -2,10 +2,11 @@
 
 ghost use Rattle.braid_sync.specs.Opening.{IsPlace};
 
-use crate::scripts::{Want, check, dialer, is_end, one_and_one, place};
+use crate::scripts::{Want, dialer, is_end, one_and_one, place};
 use crate::sessions::whole_in;
 use braid_io::MemSink;
-use braid_sync::{Place, SyncEnd, follow};
+use braid_outbox::Replica;
+use braid_sync::{Followed, Place, SyncEnd, follow};
 use std::alloc::Global;
 use std::test::Fail;
 
@@ -21,14 +22,30 @@ const LINES: &[u8] = b"Known \"x-1\"\nConfirmed \"a-1\"\nNew \"y-1\"\nNew \"z-1\
 
 const ENDS: &[usize] = &[12, 28, 38, 48];
 
-/// How a follow went: its end, its count of lines, how many bytes were printed, and the versions confirmed. What was printed begins
-/// the lines.
+/// How a follow went: its end, its count of lines, the bytes printed, whether these begin all lines, and the versions
+/// confirmed.
 #[derive(Drop)]
 struct Went {
     end: SyncEnd,
     lines: u64,
     printed: usize,
+    begins: bool,
     confirmed: u64,
+}
+
+/// A replica's follow of so many updates of these bytes.
+fn follow_over(
+    alloc: Global,
+    place: &Place,
+    replica: &mut Replica,
+    given: &[u8],
+    count: u32,
+    out: &mut MemSink,
+) -> Result<Followed, Fail>
+    requires place { IsPlace place.now }
+{
+    let mut dialer = dialer(alloc, given, b"", 4_096)?;
+    Ok(follow(alloc, replica, place, &mut dialer, count, out))
 }
 
 /// A follow of so many updates of the first bytes of the reply, printed where there is so much room.
@@ -41,30 +58,39 @@ fn follow_went(
 ) -> Result<Went, Fail>
     requires place { IsPlace place.now }
 {
+    let given = GIVEN.get(..given).unwrap_or(GIVEN);
     let mut replica = one_and_one(alloc)?;
-    let mut dialer = dialer(alloc, GIVEN.get(..given).unwrap_or(GIVEN), b"", 4_096)?;
     let mut out = MemSink::new(alloc, room, Vec::new(alloc))?;
-    let followed = follow(alloc, &mut replica, place, &mut dialer, count, &mut out);
-    check(LINES.starts_with(out.written()), "other lines")?;
+    let followed = follow_over(alloc, place, &mut replica, given, count, &mut out)?;
     Ok(Went {
         end: followed.end,
         lines: followed.lines as u64,
         printed: out.written().len(),
+        begins: LINES.starts_with(out.written()),
         confirmed: replica.confirmed() as u64,
     })
 }
 
-/// Whether a follow of four updates of the first bytes of the reply learns and prints exactly the updates that have come whole.
+/// Whether a follow learnt and printed so many updates of the four, with no part of a line behind them.
+fn has_learnt(went: &Went, whole: u64) -> bool {
+    let want = if whole == 4 { Want::Done } else { Want::Cut };
+    let all_whole = went.printed == 0 || ENDS.contains(&went.printed);
+    // The first update was confirmed before.
+    went.begins
+        && all_whole
+        && whole_in(ENDS, went.printed) == whole
+        && went.lines == whole
+        && went.confirmed == whole.max(1)
+        && is_end(&went.end, want)
+}
+
+/// Whether a follow of four updates of the first bytes of the reply learns and prints exactly the updates that have
+/// come whole.
 fn cut_holds(alloc: Global, place: &Place, given: usize) -> Result<bool, Fail>
     requires place { IsPlace place.now }
 {
     let went = follow_went(alloc, place, given, 4, 100)?;
-    let whole = whole_in(UPDATES, given);
-    let want = if whole == 4 { Want::Done } else { Want::Cut };
-    let all_whole = went.printed == 0 || ENDS.contains(&went.printed);
-    let lines = all_whole && went.lines == whole && whole_in(ENDS, went.printed) == whole;
-    // The first update was confirmed before.
-    Ok(lines && is_end(&went.end, want) && went.confirmed == whole.max(1))
+    Ok(has_learnt(&went, whole_in(UPDATES, given)))
 }
 
 /// The first byte behind which a follow that is cut does otherwise.
@@ -79,29 +105,22 @@ fn first_cut(alloc: Global, place: &Place) -> Result<Option<usize>, Fail>
     Ok(None)
 }
 
-/// Whether a follow whose lines have no more room than this ends so, and has learnt the update of the line that is not whole.
+/// Whether a follow ended for want of room, and learnt the update of the line that is not whole.
+fn has_no_room(went: &Went) -> bool {
+    let whole = whole_in(ENDS, went.printed);
+    went.begins
+        && went.lines == whole
+        && went.confirmed == whole.saturating_add(1)
+        && matches!(went.end, SyncEnd::OutFault)
+}
+
+/// Whether a follow whose lines have no more room than this ends so, and has learnt the update of the line that is not
+/// whole.
 fn room_holds(alloc: Global, place: &Place, room: usize) -> Result<bool, Fail>
     requires place { IsPlace place.now }
 {
     let went = follow_went(alloc, place, GIVEN.len(), 4, room)?;
-    let whole = whole_in(ENDS, went.printed);
-    Ok(
-        matches!(went.end, SyncEnd::OutFault)
-            && went.lines == whole
-            && went.confirmed == whole.saturating_add(1),
-    )
-}
-
-/// The first room, less than that of all lines, with which a follow does otherwise.
-fn first_room(alloc: Global, place: &Place) -> Result<Option<usize>, Fail>
-    requires place { IsPlace place.now }
-{
-    for room in 0..LINES.len() {
-        if !room_holds(alloc, place, room)? {
-            return Ok(Some(room));
-        }
-    }
-    Ok(None)
+    Ok(has_no_room(&went))
 }
 
 /// Whether a follow of more updates than come ends with them, where there is room for their lines.
@@ -109,22 +128,41 @@ fn all_hold(alloc: Global, place: &Place) -> Result<bool, Fail>
     requires place { IsPlace place.now }
 {
     let all = follow_went(alloc, place, GIVEN.len(), 9, LINES.len())?;
-    Ok(all.printed == LINES.len() && all.lines == 4 && is_end(&all.end, Want::Done))
+    Ok(has_learnt(&all, 4) && all.printed == LINES.len())
+}
+
+/// Whether follows with each room, less than that of all lines, hold, and one with room for all lines.
+fn in_rooms(alloc: Global, place: &Place) -> Result<bool, Fail>
+    requires place { IsPlace place.now }
+{
+    for room in 0..LINES.len() {
+        if !room_holds(alloc, place, room)? {
+            return Ok(false);
+        }
+    }
+    all_hold(alloc, place)
+}
+
+/// The first byte behind which a follow by a replica of that place does otherwise.
+fn first_cut_of_all(alloc: Global) -> Result<Option<usize>, Fail> {
+    let place = place(alloc)?;
+    first_cut(alloc, &place)
+}
+
+/// Whether follows with less room and with enough of it do as they are to do.
+fn rooms_hold(alloc: Global) -> Result<bool, Fail> {
+    let place = place(alloc)?;
+    in_rooms(alloc, &place)
 }
 
 #[test]
 fn a_follow_may_be_cut_behind_any_byte(rt: HostRuntime) -> Result<(), Fail> {
-    let alloc = rt.alloc();
-    let place = place(alloc)?;
-    assert_eq!(rt; first_cut(alloc, &place)?, None);
+    assert_eq!(rt; first_cut_of_all(rt.alloc())?, None);
     Ok(())
 }
 
 #[test]
 fn a_line_of_a_follow_may_not_be_printed(rt: HostRuntime) -> Result<(), Fail> {
-    let alloc = rt.alloc();
-    let place = place(alloc)?;
-    assert_eq!(rt; first_room(alloc, &place)?, None);
-    assert!(rt; all_hold(alloc, &place)?);
+    assert!(rt; rooms_hold(rt.alloc())?);
     Ok(())
 }

@@ -1,17 +1,18 @@
 //! Replies of a hostile server: how a sync ends, and that the replica loses nothing.
 //!
-//! The replica is of agent `a`, has confirmed `x-1`, and has `a-1` unsent. Each row is decided by its last byte: cut anywhere
-//! before it, it ends as a reply that is cut.
+//! The replica is of agent `a`, has confirmed `x-1`, and has `a-1` unsent. Each row is decided by its last byte: cut
+//! anywhere before it, it ends as a reply that is cut.
 
 ghost use Rattle.braid_sync.specs.Opening.{IsPlace};
 
-use crate::scripts::{Want, dialer, holds, is_end, one_and_one, place};
+use crate::scripts::{Leaves, Want, place, sync_leaves};
 use braid_http::Refusal;
-use braid_sync::{Place, sync};
+use braid_sync::Place;
 use std::alloc::Global;
 use std::test::Fail;
 
-/// Whether a sync with these bytes on the first link and on the second, in pieces of this size, ends so and changes nothing.
+/// Whether a sync with these bytes on the first link and on the second, in pieces of this size, ends so and changes
+/// nothing.
 fn ends_so(
     alloc: Global,
     place: &Place,
@@ -22,10 +23,13 @@ fn ends_so(
 ) -> Result<bool, Fail>
     requires place { IsPlace place.now }
 {
-    let mut replica = one_and_one(alloc)?;
-    let mut dialer = dialer(alloc, first, second, piece)?;
-    let end = sync(alloc, &mut replica, place, &mut dialer);
-    Ok(is_end(&end, want) && holds(alloc, &replica, 1, 1, b"aPb")?)
+    let leaves = Leaves {
+        want,
+        confirmed: 1,
+        unsent: 1,
+        text: b"aPb",
+    };
+    sync_leaves(alloc, place, first, second, piece, leaves)
 }
 
 /// Whether a sync is cut where the first link is cut at any byte.
@@ -71,14 +75,21 @@ fn row_holds(alloc: Global, place: &Place, row: Row) -> Result<bool, Fail>
 type Row = (&'static [u8], &'static [u8], Want);
 
 /// The first row that does not hold.
-fn first_other(alloc: Global, rows: &[Row]) -> Result<Option<usize>, Fail> {
-    let place = place(alloc)?;
+fn other_at(alloc: Global, place: &Place, rows: &[Row]) -> Result<Option<usize>, Fail>
+    requires place { IsPlace place.now }
+{
     for (n, row) in rows.iter().enumerate() {
-        if !row_holds(alloc, &place, *row)? {
+        if !row_holds(alloc, place, *row)? {
             return Ok(Some(n));
         }
     }
     Ok(None)
+}
+
+/// The same, where the place of all replicas is made first.
+fn first_other(alloc: Global, rows: &[Row]) -> Result<Option<usize>, Fail> {
+    let place = place(alloc)?;
+    other_at(alloc, &place, rows)
 }
 
 /// Replies to a subscription.
@@ -233,7 +244,8 @@ const SUBSCRIPTIONS: &[Row] = &[
         b"",
         Want::BadHead(Refusal::BadChunk),
     ),
-    // Bodies that end before the version was there: behind the last chunk, in a chunk of the greatest size, at their length, with the connection.
+    // Bodies that end before the version was there: behind the last chunk, in a chunk of the greatest size, at their
+    // length, with the connection.
     (
         b"HTTP/1.1 209 X\r\nCurrent-Version: \"y-1\"\r\nTransfer-Encoding: chunked\r\n\r\n0\r\n\r\n",
         b"",

@@ -1,9 +1,8 @@
 //! Requests of a hostile peer that are refused or torn: what each is answered with, and how the session ends.
 
 use crate::replies::{BAD_CHUNK, BAD_HEAD, BAD_LENGTH, BOTH_LENGTHS, TOO_LONG, VERSION};
-use crate::sessions::{PIECES, serve};
+use crate::sessions::{PIECES, Session, served};
 use braid_ids::{Bytes, Memory};
-use braid_io::MemLink;
 use braid_session::SessionEnd;
 use std::alloc::Global;
 use std::sync::Wait;
@@ -21,6 +20,11 @@ const NOTHING: &[u8] = b"";
 /// What a session reads, its end, and what it writes.
 type Row = (&'static [u8], SessionEnd, &'static [u8]);
 
+/// Whether a session ended so, having written this and added nothing.
+fn is_so(session: &Session, end: SessionEnd, written: &[u8]) -> bool {
+    session.left.note.end == end && session.link.written() == written && session.left.has_entries(0)
+}
+
 /// Whether a session of these bytes in pieces of this size ends so, having written this and added nothing.
 fn ends_so<R: Wait>(
     rt: &R,
@@ -30,10 +34,9 @@ fn ends_so<R: Wait>(
     end: SessionEnd,
     written: &[u8],
 ) -> Result<bool, Memory> {
-    let left = Bytes::of(alloc, asked)?;
-    let mut link = MemLink::new(alloc, left, piece.max(1), 10_000, Vec::new(alloc))?;
-    let left = serve(rt, alloc, &mut link)?;
-    Ok(left.note.end == end && link.written() == written && left.has_entries(0))
+    let asked = Bytes::of(alloc, asked)?;
+    let session = served(rt, alloc, asked, piece, 10_000, &[])?;
+    Ok(is_so(&session, end, written))
 }
 
 /// Whether sessions of a row in pieces of each size end as it says.

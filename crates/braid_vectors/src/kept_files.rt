@@ -1,8 +1,8 @@
 //! State files that are cut, that grew, or that another program made: what `show` prints of them.
 
-use crate::commands::{STATE, keeper_of, keeps, run};
-use braid_ids::Bytes;
-use braid_io::{MemDialer, Status};
+use crate::commands::{Ran, STATE, keeper_of, left, run};
+use braid_ids::{Bytes, Memory};
+use braid_io::{MemDialer, MemKeeper, Status};
 use std::alloc::Global;
 use std::test::Fail;
 
@@ -10,24 +10,41 @@ use std::test::Fail;
 const EMPTY: &[u8] =
     b"braid-state 1\nagent: a\nserver: 127.0.0.1:9000\npath: /doc\nconfirmed: 0\nunsent: 0\n\nend\n";
 
-/// Where the lines of both states begin, and in the second one the updates, each with the gap before it, and the gap behind them.
+/// Where the lines of both states begin, and in the second one the updates, each with the gap before it, and the gap
+/// behind them.
 const EMPTY_PLACES: &[usize] = &[0, 14, 23, 46, 57, 70, 80, 81];
 
 const STATE_PLACES: &[usize] = &[0, 14, 23, 35, 46, 59, 69, 70, 119, 218, 220, 222];
 
+/// `show`, which dials nothing.
+fn run_show(alloc: Global, keeper: &mut MemKeeper) -> Result<Ran, Fail> {
+    let mut dialer = MemDialer::new(alloc, Vec::new(alloc), Vec::new(alloc))?;
+    run(alloc, &[b"show", b"s"], keeper, &mut dialer, 400)
+}
+
 /// Whether `show` of these bytes prints this, with this status, and keeps them.
 fn shows(alloc: Global, state: &[u8], text: &[u8], status: Status) -> Result<bool, Fail> {
     let mut keeper = keeper_of(alloc, state, &[])?;
-    let mut dialer = MemDialer::new(alloc, Vec::new(alloc), Vec::new(alloc))?;
-    let ran = run(alloc, &[b"show", b"s"], &mut keeper, &mut dialer, 400)?;
-    Ok(ran.out.written() == text && ran.status == status && keeps(&keeper, state))
+    let ran = run_show(alloc, &mut keeper)?;
+    Ok(left(&ran, &keeper, text, status, state))
+}
+
+/// Adds a place and the end of a line.
+fn push_place(line: &mut Bytes, place: usize) -> Result<(), Memory> {
+    line.push_number(place as u64)?;
+    line.push(b"\n")
+}
+
+/// The line that tells of no state at this place.
+fn line_of(alloc: Global, place: usize) -> Result<Bytes, Memory> {
+    let mut line = Bytes::of(alloc, b"fault: BadState at ")?;
+    push_place(&mut line, place)?;
+    Ok(line)
 }
 
 /// Whether `show` of these bytes tells that they are no state at this place.
 fn is_none_at(alloc: Global, state: &[u8], place: usize) -> Result<bool, Fail> {
-    let mut line = Bytes::of(alloc, b"fault: BadState at ")?;
-    line.push_number(place as u64)?;
-    line.push(b"\n")?;
+    let line = line_of(alloc, place)?;
     shows(alloc, state, line.get(), Status::Bad)
 }
 
@@ -52,30 +69,63 @@ fn first_cut(alloc: Global, state: &[u8], places: &[usize]) -> Result<Option<usi
     Ok(None)
 }
 
+/// A state, and where its lines and updates begin.
+type State = (&'static [u8], &'static [usize]);
+
+const STATES: &[State] = &[(EMPTY, EMPTY_PLACES), (STATE, STATE_PLACES)];
+
+/// Whether each of these states can't be cut at any byte.
+fn no_cuts(alloc: Global, states: &[State]) -> Result<bool, Fail> {
+    for (state, places) in states {
+        if first_cut(alloc, state, places)?.is_some() {
+            return Ok(false);
+        }
+    }
+    Ok(true)
+}
+
 #[test]
 fn a_state_file_that_is_cut_is_none(rt: HostRuntime) -> Result<(), Fail> {
-    let alloc = rt.alloc();
-    assert_eq!(rt; first_cut(alloc, EMPTY, EMPTY_PLACES)?, None);
-    assert_eq!(rt; first_cut(alloc, STATE, STATE_PLACES)?, None);
+    assert!(rt; no_cuts(rt.alloc(), STATES)?);
     Ok(())
 }
 
-/// The first byte with which the state can grow and is still one.
-fn first_more(alloc: Global, state: &[u8]) -> Result<Option<u8>, Fail> {
+/// A state with one more byte.
+fn grown(alloc: Global, state: &[u8], more: u8) -> Result<Bytes, Memory> {
+    let mut grown = Bytes::of(alloc, state)?;
+    grown.push(&[more])?;
+    Ok(grown)
+}
+
+/// Whether a state with one more byte is none.
+fn more_is_none(alloc: Global, state: &[u8], more: u8) -> Result<bool, Fail> {
+    let grown = grown(alloc, state, more)?;
+    is_none_at(alloc, grown.get(), state.len())
+}
+
+/// Whether the state can't grow by any byte.
+fn is_whole(alloc: Global, state: &[u8]) -> Result<bool, Fail> {
     for more in 0..=255 {
-        let mut grown = Bytes::of(alloc, state)?;
-        grown.push(&[more])?;
-        if !is_none_at(alloc, grown.get(), state.len())? {
-            return Ok(Some(more));
+        if !more_is_none(alloc, state, more)? {
+            return Ok(false);
         }
     }
-    Ok(None)
+    Ok(true)
+}
+
+/// Whether each of these states can't grow.
+fn are_whole(alloc: Global, states: &[State]) -> Result<bool, Fail> {
+    for (state, _) in states {
+        if !is_whole(alloc, state)? {
+            return Ok(false);
+        }
+    }
+    Ok(true)
 }
 
 #[test]
 fn a_state_file_that_grew_is_none(rt: HostRuntime) -> Result<(), Fail> {
-    assert_eq!(rt; first_more(rt.alloc(), EMPTY)?, None);
-    assert_eq!(rt; first_more(rt.alloc(), STATE)?, None);
+    assert!(rt; are_whole(rt.alloc(), STATES)?);
     Ok(())
 }
 

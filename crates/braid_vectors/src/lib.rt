@@ -1,7 +1,7 @@
 //! Conformance rows as tests: what a hostile peer may send to a server or to a client, and how each such run must end.
 //!
-//! Each module is a subject. A test walks a table, whose rows have the bytes of the peer, in what pieces they come, and what is
-//! to be written, kept and answered. Expected values come from the formats, never from a run.
+//! Each module is a subject. A test walks a table, whose rows have the bytes of the peer, in what pieces they come, and
+//! what is to be written, kept and answered. Expected values come from the formats, never from a run.
 //!
 //! The crate has nothing but tests.
 #![tactic(auto)]
@@ -20,6 +20,8 @@ mod failing_sessions;
 mod failing_subscriptions;
 #[cfg(test)]
 mod failing_syncs;
+#[cfg(test)]
+mod filled;
 #[cfg(test)]
 mod follows;
 #[cfg(test)]

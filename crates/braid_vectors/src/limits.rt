@@ -1,8 +1,8 @@
 //! The limits of a head and of a connection: the last value of each, and the next one.
 
-use crate::sessions::{PIECES, serve};
-use braid_ids::{Bytes, Memory};
-use braid_io::MemLink;
+use crate::filled::filled;
+use crate::sessions::{PIECES, Session, served};
+use braid_ids::Memory;
 use braid_session::SessionEnd;
 use std::alloc::Global;
 use std::sync::Wait;
@@ -10,8 +10,8 @@ use std::test::Fail;
 
 const R431: SessionEnd = SessionEnd::Refused { status: 431 };
 
-/// What a session reads, its end, how many requests it answers and how many entries it adds, and how what it writes begins and
-/// ends.
+/// What a session reads, its end, how many requests it answers and how many entries it adds, and how what it writes
+/// begins and ends.
 #[derive(Clone, Copy)]
 pub struct Row {
     pub front: &'static [u8],
@@ -25,28 +25,20 @@ pub struct Row {
     pub ends: &'static [u8],
 }
 
-/// The bytes of a row: its filler so many times between its front and its back.
-fn bytes_of(alloc: Global, row: &Row) -> Result<Bytes, Memory> {
-    let mut bytes = Bytes::of(alloc, row.front)?;
-    for _ in 0..row.times {
-        bytes.push(row.filler)?;
-    }
-    bytes.push(row.back)?;
-    Ok(bytes)
+/// Whether a session left what one of a row is to leave.
+fn is_so(session: &Session, row: &Row) -> bool {
+    session.link.written().starts_with(row.begins)
+        && session.link.written().ends_with(row.ends)
+        && session.left.note.end == row.end
+        && session.left.note.requests == row.requests
+        && session.left.has_entries(row.entries)
 }
 
 /// Whether a session of a row leaves what it is to leave, in pieces of this size.
 fn row_holds<R: Wait>(rt: &R, alloc: Global, row: &Row, piece: usize) -> Result<bool, Memory> {
-    let asked = bytes_of(alloc, row)?;
-    let mut link = MemLink::new(alloc, asked, piece.max(1), 2_000_000, Vec::new(alloc))?;
-    let left = serve(rt, alloc, &mut link)?;
-    Ok(
-        link.written().starts_with(row.begins)
-            && link.written().ends_with(row.ends)
-            && left.note.end == row.end
-            && left.note.requests == row.requests
-            && left.has_entries(row.entries),
-    )
+    let asked = filled(alloc, row.front, row.filler, row.times, row.back)?;
+    let session = served(rt, alloc, asked, piece, 2_000_000, &[])?;
+    Ok(is_so(&session, row))
 }
 
 /// Whether sessions of a row in pieces of each of these sizes leave what they are to leave.

@@ -4,18 +4,20 @@
 
 ghost use Rattle.braid_sync.specs.Opening.{IsPlace};
 
-use crate::scripts::{TAKEN, Want, check, dialer, holds, is_end, one_and_one, place};
+use crate::filled::filled;
+use crate::scripts::{
+    Leaves, TAKEN, Want, check, is_end, one_and_one, place, sync_leaves, sync_over,
+};
 use braid_change::{Change, Text};
 use braid_http::Refusal;
 use braid_ids::{Bytes, Id, Memory};
-use braid_io::MemDialer;
 use braid_outbox::{Replica, WriteFault};
-use braid_sync::{Place, sync};
+use braid_sync::Place;
 use std::alloc::Global;
 use std::test::Fail;
 
-/// What the first link gives, and the second one; the end that is wanted, how many versions are confirmed and unsent then, and
-/// the text.
+/// What the first link gives, and the second one; the end that is wanted, how many versions are confirmed and unsent
+/// then, and the text.
 #[derive(Clone, Copy)]
 struct Row {
     front: &'static [u8],
@@ -28,44 +30,38 @@ struct Row {
     text: &'static [u8],
 }
 
-/// The bytes of a row's first link: its filler so many times between its front and its back.
-fn bytes_of(alloc: Global, row: &Row) -> Result<Bytes, Memory> {
-    let mut bytes = Bytes::of(alloc, row.front)?;
-    for _ in 0..row.times {
-        bytes.push(row.filler)?;
-    }
-    bytes.push(row.back)?;
-    Ok(bytes)
-}
-
-/// A dialer of a row's links, which give their bytes in pieces of this size.
-fn dialer_of(alloc: Global, row: &Row, piece: usize) -> Result<MemDialer, Fail> {
-    let given = bytes_of(alloc, row)?;
-    dialer(alloc, given.get(), row.second, piece)
-}
-
 /// Whether a sync of a row leaves what it is to leave, in pieces of this size.
 fn row_holds(alloc: Global, place: &Place, row: &Row, piece: usize) -> Result<bool, Fail>
     requires place { IsPlace place.now }
 {
-    let mut replica = one_and_one(alloc)?;
-    let mut dialer = dialer_of(alloc, row, piece)?;
-    let end = sync(alloc, &mut replica, place, &mut dialer);
-    let (confirmed, unsent) = row.counts;
-    Ok(is_end(&end, row.want) && holds(alloc, &replica, confirmed, unsent, row.text)?)
+    let given = filled(alloc, row.front, row.filler, row.times, row.back)?;
+    let leaves = Leaves {
+        want: row.want,
+        confirmed: row.counts.0,
+        unsent: row.counts.1,
+        text: row.text,
+    };
+    sync_leaves(alloc, place, given.get(), row.second, piece, leaves)
 }
 
 /// The first row that does not hold, in pieces of 7 bytes and of many.
-fn first_other(alloc: Global, rows: &[Row]) -> Result<Option<usize>, Fail> {
-    let place = place(alloc)?;
+fn other_at(alloc: Global, place: &Place, rows: &[Row]) -> Result<Option<usize>, Fail>
+    requires place { IsPlace place.now }
+{
     for (n, row) in rows.iter().enumerate() {
-        let small = row_holds(alloc, &place, row, 7)?;
-        let large = row_holds(alloc, &place, row, 100_000)?;
+        let small = row_holds(alloc, place, row, 7)?;
+        let large = row_holds(alloc, place, row, 100_000)?;
         if !small || !large {
             return Ok(Some(n));
         }
     }
     Ok(None)
+}
+
+/// The same, where the place of all replicas is made first.
+fn first_other(alloc: Global, rows: &[Row]) -> Result<Option<usize>, Fail> {
+    let place = place(alloc)?;
+    other_at(alloc, &place, rows)
 }
 
 /// Replies at their limits.
@@ -320,56 +316,85 @@ fn push_updates(bytes: &mut Bytes, given: u64) -> Result<(), Memory> {
     Ok(())
 }
 
-/// A reply that names a thousand versions as the current ones beside `x-1`, and gives so many of them.
-fn many_versions(alloc: Global, given: u64) -> Result<Bytes, Memory> {
-    let mut bytes = Bytes::of(alloc, b"HTTP/1.1 209 X\r\nCurrent-Version: \"x-1\"")?;
-    push_names(&mut bytes, 1_000)?;
+/// Adds a reply that names a thousand versions as the current ones beside `x-1`, and gives so many of them.
+fn push_many(bytes: &mut Bytes, given: u64) -> Result<(), Memory> {
+    bytes.push(b"HTTP/1.1 209 X\r\nCurrent-Version: \"x-1\"")?;
+    push_names(bytes, 1_000)?;
     bytes.push(b"\r\n\r\n")?;
-    push_updates(&mut bytes, given)?;
+    push_updates(bytes, given)
+}
+
+/// Such a reply.
+fn many_versions(alloc: Global, given: u64) -> Result<Bytes, Memory> {
+    let mut bytes = Bytes::of(alloc, b"")?;
+    push_many(&mut bytes, given)?;
     Ok(bytes)
 }
 
-/// A dialer of a link that gives such a reply, and of one that takes a PUT.
-fn many_dialer(alloc: Global, given: u64) -> Result<MemDialer, Fail> {
+/// Whether a sync with such a reply leaves this.
+fn many_leave(alloc: Global, place: &Place, given: u64, leaves: Leaves) -> Result<bool, Fail>
+    requires place { IsPlace place.now }
+{
     let bytes = many_versions(alloc, given)?;
-    dialer(alloc, bytes.get(), TAKEN, 4_096)
+    sync_leaves(alloc, place, bytes.get(), TAKEN, 4_096, leaves)
 }
 
-/// Whether a sync with such a reply ends so, and how many versions are confirmed and unsent then.
-fn many_end_so(
-    alloc: Global,
-    given: u64,
-    want: Want,
-    confirmed: u32,
-    unsent: u32,
-) -> Result<bool, Fail> {
+/// How many versions are given, and what a sync then leaves.
+const MANY: &[(u64, Leaves)] = &[
+    (
+        1_000,
+        Leaves {
+            want: Want::Done,
+            confirmed: 1_002,
+            unsent: 0,
+            text: b"aPb",
+        },
+    ),
+    (
+        999,
+        Leaves {
+            want: Want::Cut,
+            confirmed: 1_000,
+            unsent: 1,
+            text: b"aPb",
+        },
+    ),
+];
+
+/// Whether syncs with so many versions leave this.
+fn all_leave(alloc: Global, place: &Place, rows: &[(u64, Leaves)]) -> Result<bool, Fail>
+    requires place { IsPlace place.now }
+{
+    for (given, leaves) in rows {
+        if !many_leave(alloc, place, *given, *leaves)? {
+            return Ok(false);
+        }
+    }
+    Ok(true)
+}
+
+/// The same, where the place of all replicas is made first.
+fn many_hold(alloc: Global) -> Result<bool, Fail> {
     let place = place(alloc)?;
-    let mut replica = one_and_one(alloc)?;
-    let mut dialer = many_dialer(alloc, given)?;
-    let end = sync(alloc, &mut replica, &place, &mut dialer);
-    Ok(is_end(&end, want) && holds(alloc, &replica, confirmed, unsent, b"aPb")?)
+    all_leave(alloc, &place, MANY)
 }
 
 #[test]
 fn a_thousand_versions_may_be_current(rt: HostRuntime) -> Result<(), Fail> {
-    assert!(rt; many_end_so(rt.alloc(), 1_000, Want::Done, 1_002, 0)?);
-    assert!(rt; many_end_so(rt.alloc(), 999, Want::Cut, 1_000, 1)?);
+    assert!(rt; many_hold(rt.alloc())?);
     Ok(())
 }
 
-/// A replica that a sync with this reply has left.
-fn synced(alloc: Global, given: &[u8]) -> Result<Replica, Fail> {
-    let place = place(alloc)?;
-    let mut replica = one_and_one(alloc)?;
-    let mut dialer = dialer(alloc, given, TAKEN, 4_096)?;
-    let end = sync(alloc, &mut replica, &place, &mut dialer);
-    check(is_end(&end, Want::Done), "the sync")?;
-    Ok(replica)
+/// A sync of a replica with this reply, which is to learn and send all.
+fn sync_all(alloc: Global, place: &Place, replica: &mut Replica, given: &[u8]) -> Result<(), Fail>
+    requires place { IsPlace place.now }
+{
+    let end = sync_over(alloc, place, replica, given, TAKEN, 4_096)?;
+    check(is_end(&end, Want::Done), "the sync")
 }
 
-/// The name of the version that the replica writes behind a sync with this reply, where it has a number left.
-fn written_behind(alloc: Global, given: &[u8]) -> Result<Option<Id>, Fail> {
-    let mut replica = synced(alloc, given)?;
+/// The name of the version that a replica writes, where it has a number left.
+fn written(alloc: Global, replica: &mut Replica) -> Result<Option<Id>, Fail> {
     let text = Text::read(alloc, b"x")?;
     match replica.write(alloc, Change::Body(text)) {
         Ok(id) => Ok(Some(id)),
@@ -378,23 +403,70 @@ fn written_behind(alloc: Global, given: &[u8]) -> Result<Option<Id>, Fail> {
     }
 }
 
-/// Whether the replica then writes a version of this name.
-fn is_named(alloc: Global, given: &[u8], name: &[u8]) -> Result<bool, Fail> {
-    match written_behind(alloc, given)? {
-        Some(id) => Ok(id.bytes() == name),
-        None => Ok(false),
+/// The name of the version that a replica writes behind a sync with this reply, where it has a number left.
+fn written_behind(alloc: Global, place: &Place, given: &[u8]) -> Result<Option<Id>, Fail>
+    requires place { IsPlace place.now }
+{
+    let mut replica = one_and_one(alloc)?;
+    sync_all(alloc, place, &mut replica, given)?;
+    written(alloc, &mut replica)
+}
+
+/// Whether a name is this, or is none where that is to be.
+fn is_name(name: &Option<Id>, wanted: Option<&[u8]>) -> bool {
+    match (name, wanted) {
+        (Some(id), Some(bytes)) => id.bytes() == bytes,
+        (None, None) => true,
+        _ => false,
     }
+}
+
+/// Whether the replica then writes a version of this name, or none.
+fn is_written(
+    alloc: Global,
+    place: &Place,
+    given: &[u8],
+    wanted: Option<&[u8]>,
+) -> Result<bool, Fail>
+    requires place { IsPlace place.now }
+{
+    let name = written_behind(alloc, place, given)?;
+    Ok(is_name(&name, wanted))
+}
+
+/// What a server gives, and the version that is written behind it. The number behind the greatest one is taken; behind
+/// the last one there is none, and no version is written.
+const NUMBERS: &[(&[u8], Option<&[u8]>)] = &[
+    (
+        b"HTTP/1.1 209 X\r\nCurrent-Version: \"a-2\"\r\n\r\nVersion: \"a-2\"\r\nPatches: 0\r\n\r\n",
+        Some(b"a-3"),
+    ),
+    (
+        b"HTTP/1.1 209 X\r\nCurrent-Version: \"a-18446744073709551615\"\r\n\r\nVersion: \"a-18446744073709551615\"\r\nPatches: 0\r\n\r\n",
+        None,
+    ),
+];
+
+/// Whether those versions are written.
+fn all_written(alloc: Global, place: &Place) -> Result<bool, Fail>
+    requires place { IsPlace place.now }
+{
+    for (given, wanted) in NUMBERS {
+        if !is_written(alloc, place, given, *wanted)? {
+            return Ok(false);
+        }
+    }
+    Ok(true)
+}
+
+/// The same, where the place of all replicas is made first.
+fn numbers_hold(alloc: Global) -> Result<bool, Fail> {
+    let place = place(alloc)?;
+    all_written(alloc, &place)
 }
 
 #[test]
 fn a_server_may_name_the_numbers_of_an_agent(rt: HostRuntime) -> Result<(), Fail> {
-    let alloc = rt.alloc();
-    // The number behind the greatest one is taken; behind the last one there is none, and no version is written.
-    let second: &[u8] =
-        b"HTTP/1.1 209 X\r\nCurrent-Version: \"a-2\"\r\n\r\nVersion: \"a-2\"\r\nPatches: 0\r\n\r\n";
-    let last: &[u8] =
-        b"HTTP/1.1 209 X\r\nCurrent-Version: \"a-18446744073709551615\"\r\n\r\nVersion: \"a-18446744073709551615\"\r\nPatches: 0\r\n\r\n";
-    assert!(rt; is_named(alloc, second, b"a-3")?);
-    assert!(rt; written_behind(alloc, last)?.is_none());
+    assert!(rt; numbers_hold(rt.alloc())?);
     Ok(())
 }

@@ -5,12 +5,13 @@ ghost use Rattle.braid_change.specs.Changes.{patches_of};
 ghost use Rattle.braid_sync.specs.Opening.{IsPlace};
 ghost use Rattle.braid_io.specs.MemDoors.{IsUnused};
 
+use crate::sessions::link_of;
 use braid_change::{Change, ListPatch, Patch, Text, Update};
 use braid_http::Refusal;
 use braid_ids::{Agent, Bytes, Frontier, Id};
 use braid_io::{MemDialer, MemLink};
 use braid_outbox::Replica;
-use braid_sync::{Place, SyncEnd};
+use braid_sync::{Place, SyncEnd, sync};
 use std::alloc::Global;
 use std::test::Fail;
 
@@ -77,8 +78,7 @@ pub fn link(
     ensures ok { IfOk result IsUnused }
 {
     let given = Bytes::of(alloc, given)?;
-    let fails = Vec::from_slice(alloc, fails)?;
-    Ok(MemLink::new(alloc, given, piece.max(1), room, fails)?)
+    Ok(link_of(alloc, given, piece, room, fails)?)
 }
 
 /// A dialer of two links. The dials of these numbers fail.
@@ -103,6 +103,21 @@ pub fn dialer(alloc: Global, first: &[u8], second: &[u8], piece: usize) -> Resul
     two_links(alloc, first, second, &[])
 }
 
+/// The end of a replica's sync over two links that give these bytes in pieces of this size.
+pub fn sync_over(
+    alloc: Global,
+    place: &Place,
+    replica: &mut Replica,
+    first: &[u8],
+    second: &[u8],
+    piece: usize,
+) -> Result<SyncEnd, Fail>
+    requires place { IsPlace place.now }
+{
+    let mut dialer = dialer(alloc, first, second, piece)?;
+    Ok(sync(alloc, replica, place, &mut dialer))
+}
+
 /// A change that inserts these bytes at a place.
 fn insertion(alloc: Global, at: u32, bytes: &[u8]) -> Result<Change, Fail>
     ensures counted { IfOk result (λ change. length (patches_of change) < 2 ^ 32) }
@@ -116,12 +131,11 @@ fn insertion(alloc: Global, at: u32, bytes: &[u8]) -> Result<Change, Fail>
     Ok(Change::Patches(ListPatch::of(vec![in alloc; patch]?)))
 }
 
-/// A replica with one more unsent version.
-fn written(alloc: Global, mut replica: Replica, change: Change) -> Result<Replica, Fail>
-    requires counted { length (patches_of change) < 2 ^ 32 }
-{
+/// Writes a further version, which inserts these bytes at a place.
+fn insert(alloc: Global, replica: &mut Replica, at: u32, bytes: &[u8]) -> Result<(), Fail> {
+    let change = insertion(alloc, at, bytes)?;
     let _id = replica.write(alloc, change)?;
-    Ok(replica)
+    Ok(())
 }
 
 /// The update `x-1` with the body `ab`.
@@ -134,35 +148,71 @@ fn update_x(alloc: Global) -> Result<Update, Fail> {
 
 /// A replica of agent `a` that has confirmed `x-1`, whose body is `ab`.
 fn one_confirmed(alloc: Global) -> Result<Replica, Fail> {
-    let mut replica = Replica::new(alloc, Agent::read(alloc, b"a")?);
+    let agent = Agent::read(alloc, b"a")?;
     let x = update_x(alloc)?;
+    let mut replica = Replica::new(alloc, agent);
     let _learn = replica.learn(alloc, x);
     Ok(replica)
 }
 
-/// A replica of agent `a` that has confirmed `x-1`, whose body is `ab`, and has `a-1` behind it unsent, which inserts `P`.
+/// A replica of agent `a` that has confirmed `x-1`, whose body is `ab`, and has `a-1` behind it unsent, which inserts
+/// `P`.
 pub fn one_and_one(alloc: Global) -> Result<Replica, Fail> {
-    let replica = one_confirmed(alloc)?;
-    let change = insertion(alloc, 1, b"P")?;
-    written(alloc, replica, change)
+    let mut replica = one_confirmed(alloc)?;
+    insert(alloc, &mut replica, 1, b"P")?;
+    Ok(replica)
 }
 
 /// The same with `a-2` behind it, which inserts `!` at the end.
 pub fn one_and_two(alloc: Global) -> Result<Replica, Fail> {
-    let replica = one_and_one(alloc)?;
-    let change = insertion(alloc, 3, b"!")?;
-    written(alloc, replica, change)
+    let mut replica = one_and_one(alloc)?;
+    insert(alloc, &mut replica, 3, b"!")?;
+    Ok(replica)
 }
 
-/// Whether so many versions are confirmed and unsent, and the text is this.
-pub fn holds(
+/// Whether a replica's text is this.
+fn reads(alloc: Global, replica: &Replica, text: &[u8]) -> Result<bool, Fail> {
+    let wanted = Text::read(alloc, text)?;
+    let body = replica.body(alloc)?;
+    Ok(body.same(&wanted))
+}
+
+/// What a sync is to leave: its end, how many versions are confirmed and unsent then, and the text.
+#[derive(Clone, Copy)]
+pub struct Leaves {
+    pub want: Want,
+    pub confirmed: u32,
+    pub unsent: u32,
+    pub text: &'static [u8],
+}
+
+/// Whether a sync that ended so left this.
+pub fn has_left(
     alloc: Global,
     replica: &Replica,
-    confirmed: u32,
-    unsent: u32,
-    text: &[u8],
+    end: &SyncEnd,
+    leaves: Leaves,
 ) -> Result<bool, Fail> {
-    let body = replica.body(alloc)?;
-    let wanted = Text::read(alloc, text)?;
-    Ok(replica.confirmed() == confirmed && replica.unsent() == unsent && body.same(&wanted))
+    let counts = replica.confirmed() == leaves.confirmed && replica.unsent() == leaves.unsent;
+    if counts && is_end(end, leaves.want) {
+        reads(alloc, replica, leaves.text)
+    } else {
+        Ok(false)
+    }
+}
+
+/// Whether a sync of that replica over two links that give these bytes, in pieces of this size, leaves this.
+pub fn sync_leaves(
+    alloc: Global,
+    place: &Place,
+    first: &[u8],
+    second: &[u8],
+    piece: usize,
+    leaves: Leaves,
+) -> Result<bool, Fail>
+    requires place { IsPlace place.now }
+{
+    let mut replica = one_and_one(alloc)?;
+    let end = sync_over(alloc, place, &mut replica, first, second, piece)?;
+    has_left(alloc, &replica, &end, leaves)
 }

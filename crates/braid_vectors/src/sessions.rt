@@ -1,6 +1,7 @@
 //! Sessions over links in memory, on a new book, and what they leave.
 
-ghost use Rattle.std.specs.Prelude.{◌≡◌, false};
+ghost use Rattle.std.specs.Prelude.{◌≡◌, false, IfOk};
+ghost use Rattle.braid_io.specs.MemDoors.{IsUnused};
 ghost use Rattle.braid_session.specs.Ends.{KeepsPlace};
 
 use braid_hall::{Hall, Pass};
@@ -44,7 +45,7 @@ pub fn serve_on<R: Wait>(
 }
 
 /// A session of a link on a new book, and one of a second pass after it.
-pub fn serve<R: Wait>(rt: &R, alloc: Global, link: &mut MemLink) -> Result<Left, Memory> {
+fn serve<R: Wait>(rt: &R, alloc: Global, link: &mut MemLink) -> Result<Left, Memory> {
     let (hall, mut root) = Hall::open(alloc, Book::new(alloc))?;
     let mut other = hall.split(alloc, &mut root)?;
     let mut bell = MemBell::new(0);
@@ -52,6 +53,41 @@ pub fn serve<R: Wait>(rt: &R, alloc: Global, link: &mut MemLink) -> Result<Left,
     let rings = bell.rings();
     let after = serve_on(rt, alloc, &hall, &mut other, b"GET / HTTP/1.1\r\n\r\n")?;
     Ok(Left { note, after, rings })
+}
+
+/// A link that gives these bytes in pieces of this size, with room for so many. The calls of these numbers fail.
+pub fn link_of(
+    alloc: Global,
+    given: Bytes,
+    piece: usize,
+    room: usize,
+    fails: &[u64],
+) -> Result<MemLink, Memory>
+    ensures ok { IfOk result IsUnused }
+{
+    let fails = Vec::from_slice(alloc, fails)?;
+    MemLink::new(alloc, given, piece.max(1), room, fails)
+}
+
+/// A session's link, and what it left.
+#[derive(Drop)]
+pub struct Session {
+    pub link: MemLink,
+    pub left: Left,
+}
+
+/// A session on a new book over such a link, and one of a second pass after it.
+pub fn served<R: Wait>(
+    rt: &R,
+    alloc: Global,
+    asked: Bytes,
+    piece: usize,
+    room: usize,
+    fails: &[u64],
+) -> Result<Session, Memory> {
+    let mut link = link_of(alloc, asked, piece, room, fails)?;
+    let left = serve(rt, alloc, &mut link)?;
+    Ok(Session { link, left })
 }
 
 impl Left {

@@ -1,9 +1,8 @@
 //! Requests that hide others: bodies that look like requests, behind heads that are served, denied or refused.
 
 use crate::replies::{ABSENT, BAD_CHUNK, BAD_HEAD, BOTH_LENGTHS, METHOD, NO_VERSION, PATH};
-use crate::sessions::{PIECES, serve};
+use crate::sessions::{PIECES, Session, served};
 use braid_ids::{Bytes, Memory};
-use braid_io::MemLink;
 use braid_session::SessionEnd;
 use std::alloc::Global;
 use std::sync::Wait;
@@ -31,18 +30,20 @@ fn are_both(bytes: &[u8], first: &[u8], second: &[u8]) -> bool {
     bytes.strip_prefix(first) == Some(second)
 }
 
+/// Whether a session left what one of a row is to leave.
+fn is_so(session: &Session, row: &Row) -> bool {
+    let [first, second] = row.written;
+    are_both(session.link.written(), first, second)
+        && session.left.note.end == row.end
+        && session.left.note.requests == row.requests
+        && session.left.has_entries(0)
+}
+
 /// Whether a session of a row leaves what it is to leave, in pieces of this size.
 fn row_holds<R: Wait>(rt: &R, alloc: Global, row: &Row, piece: usize) -> Result<bool, Memory> {
-    let left = Bytes::of(alloc, row.asked)?;
-    let mut link = MemLink::new(alloc, left, piece.max(1), 10_000, Vec::new(alloc))?;
-    let left = serve(rt, alloc, &mut link)?;
-    let [first, second] = row.written;
-    Ok(
-        are_both(link.written(), first, second)
-            && left.note.end == row.end
-            && left.note.requests == row.requests
-            && left.has_entries(0),
-    )
+    let asked = Bytes::of(alloc, row.asked)?;
+    let session = served(rt, alloc, asked, piece, 10_000, &[])?;
+    Ok(is_so(&session, row))
 }
 
 /// Whether sessions of a row in pieces of each size leave what they are to leave.

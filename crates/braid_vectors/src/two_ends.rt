@@ -1,8 +1,8 @@
 //! Two ends of one text: what the client's commands write, and what a server replies to just that.
 //!
-//! The server holds `x-1`, whose body is `ab`, and `y-1` behind it, which inserts `c` at the end. The client's agent `a` has `a-1`,
-//! whose body is `Z`, and `a-2` behind it, which inserts `!` at the end. A first sync is cut inside `y-1`, the next one goes on, and
-//! then both ends read the same.
+//! The server holds `x-1`, whose body is `ab`, and `y-1` behind it, which inserts `c` at the end. The client's agent
+//! `a` has `a-1`, whose body is `Z`, and `a-2` behind it, which inserts `!` at the end. A first sync is cut inside
+//! `y-1`, the next one goes on, and then both ends read the same.
 
 use crate::commands::{Ran, keeper_of, run};
 use crate::protocol::{Example, first_other};
@@ -50,8 +50,10 @@ const CONNECTIONS: &[Example] = &[X, Y, FIRST, NEXT, PUTS, READ];
 
 #[test]
 fn a_server_replies_to_what_a_client_writes(rt: HostRuntime) -> Result<(), Fail> {
-    assert_eq!(rt; first_other(&rt, rt.alloc(), CONNECTIONS, 1)?, None);
-    assert_eq!(rt; first_other(&rt, rt.alloc(), CONNECTIONS, 4_096)?, None);
+    assert_eq!(rt;
+        first_other(&rt, rt.alloc(), CONNECTIONS, &[1, 4_096])?,
+        None
+    );
     Ok(())
 }
 
@@ -71,16 +73,19 @@ fn written_on(dialer: &MemDialer, n: usize) -> &[u8] {
     }
 }
 
-/// Whether so many links were hung up, of which the first and the second one were written this.
-fn wrote(dialer: &MemDialer, links: usize, first: &[u8], second: &[u8]) -> bool {
-    dialer.talks().len() == links
-        && written_on(dialer, 0) == first
-        && written_on(dialer, 1) == second
+/// Whether just so many links were hung up as there are texts here, and these were written on them.
+fn wrote(dialer: &MemDialer, texts: &[&[u8]]) -> bool {
+    for (n, text) in texts.iter().enumerate() {
+        if written_on(dialer, n) != *text {
+            return false;
+        }
+    }
+    dialer.talks().len() == texts.len()
 }
 
-/// Whether a run prints this, with this status.
-fn is_run(ran: &Ran, line: &[u8], status: Status) -> bool {
-    ran.out.written() == line && ran.status == status
+/// Whether a run printed this, with this status, and wrote this on the links of its dialer.
+fn is_so(ran: &Ran, line: &[u8], status: Status, dialer: &MemDialer, texts: &[&[u8]]) -> bool {
+    ran.is_so(line, status) && wrote(dialer, texts)
 }
 
 /// Whether a sync whose subscription is cut inside `y-1` is told so.
@@ -90,31 +95,34 @@ fn is_cut(alloc: Global, keeper: &mut MemKeeper) -> Result<bool, Fail> {
         .strip_suffix(b"c\r\n\r\n\r\n2\r\n\r\n\r\n0\r\n\r\n");
     let mut dialer = dialer(alloc, given.unwrap_or(b""), b"", 4_096)?;
     let ran = run(alloc, &[b"sync", b"s"], keeper, &mut dialer, 100)?;
-    Ok(is_run(&ran, b"fault: Cut\n", Status::Cut) && wrote(&dialer, 1, FIRST.sent, b""))
+    Ok(is_so(&ran, b"fault: Cut\n", Status::Cut, &dialer, &[FIRST.sent]))
 }
 
 /// Whether the next sync learns and sends the rest.
 fn goes_on(alloc: Global, keeper: &mut MemKeeper) -> Result<bool, Fail> {
     let mut dialer = dialer(alloc, NEXT.received, PUTS.received, 4_096)?;
     let ran = run(alloc, &[b"sync", b"s"], keeper, &mut dialer, 100)?;
-    Ok(
-        is_run(&ran, b"synced: confirmed 4 unsent 0\n", Status::Done)
-            && wrote(&dialer, 2, NEXT.sent, PUTS.sent),
-    )
+    let line = b"synced: confirmed 4 unsent 0\n";
+    Ok(is_so(&ran, line, Status::Done, &dialer, &[NEXT.sent, PUTS.sent]))
 }
 
 /// Whether the client then shows the text.
 fn is_shown(alloc: Global, keeper: &mut MemKeeper) -> Result<bool, Fail> {
     let mut dialer = dialer(alloc, b"", b"", 4_096)?;
     let ran = run(alloc, &[b"show", b"s"], keeper, &mut dialer, 400)?;
-    Ok(is_run(&ran, SHOWN, Status::Done))
+    Ok(is_so(&ran, SHOWN, Status::Done, &dialer, &[]))
+}
+
+/// The three of them, one after another.
+fn comes_together(alloc: Global, keeper: &mut MemKeeper) -> Result<(), Fail> {
+    check(is_cut(alloc, keeper)?, "the first sync")?;
+    check(goes_on(alloc, keeper)?, "the next sync")?;
+    check(is_shown(alloc, keeper)?, "the text")
 }
 
 #[test]
 fn a_client_writes_what_a_server_replies_to(rt: HostRuntime) -> Result<(), Fail> {
     let alloc = rt.alloc();
     let mut keeper = keeper_of(alloc, STATE, &[])?;
-    check(is_cut(alloc, &mut keeper)?, "the first sync")?;
-    check(goes_on(alloc, &mut keeper)?, "the next sync")?;
-    check(is_shown(alloc, &mut keeper)?, "the text")
+    comes_together(alloc, &mut keeper)
 }
